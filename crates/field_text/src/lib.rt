@@ -8,6 +8,7 @@ mod tables;
 #[cfg(test)]
 mod tests;
 mod text;
+pub mod xml;
 
 pub use blob::Blob;
 pub use decimal::{decimal_text, read_decimal};

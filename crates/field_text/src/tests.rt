@@ -61,3 +61,39 @@ fn decimals_are_read_and_written(rt: HostRuntime) -> Result<(), Fail> {
     }
     Ok(())
 }
+
+#[test]
+fn characters_and_names_of_documents(rt: HostRuntime) -> Result<(), Fail> {
+    use crate::xml::{is_local_name, is_xml_char, is_xml_space, xml_char_of};
+    let allowed = [
+        ('\t', true),
+        ('\u{0B}', false),
+        ('\u{1F}', false),
+        (' ', true),
+        ('\u{7F}', true),
+        ('\u{D7FF}', true),
+        ('\u{FFFD}', true),
+        ('\u{FFFE}', false),
+        ('\u{10FFFF}', true),
+    ];
+    for (c, want) in allowed {
+        assert_eq!(rt; is_xml_char(c), want);
+        assert_eq!(rt; xml_char_of(c) == c, want);
+    }
+    assert!(rt; is_xml_space('\r') && !is_xml_space('\u{A0}'));
+    let names = [
+        ("", false),
+        ("a", true),
+        ("_a.b-c9", true),
+        ("9a", false),
+        ("-a", false),
+        ("a:b", false),
+        ("\u{E9}tat", true),
+        ("a\u{FFFE}", false),
+        ("a b", false),
+    ];
+    for (name, want) in names {
+        assert_eq!(rt; is_local_name(name), want, "{name}");
+    }
+    Ok(())
+}
