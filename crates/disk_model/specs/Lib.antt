@@ -1,0 +1,5 @@
+pub mod Disk
+pub mod Failing
+pub mod Images
+pub mod Memory
+pub mod Past

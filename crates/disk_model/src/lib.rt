@@ -1,0 +1,17 @@
+//! A disk as a journal sees it: what a read gives, and what a crash at any moment may leave.
+#![tactic(auto)]
+
+mod calls;
+mod counts;
+mod disk;
+mod failing;
+mod file;
+mod memory;
+#[cfg(test)]
+mod tests;
+
+pub use calls::Call;
+pub use disk::Disk;
+pub use failing::{FusedDisk, StumbleDisk};
+pub use file::FileDisk;
+pub use memory::MemDisk;
