@@ -1,0 +1,10 @@
+//! The ids that a device draws, and the hashes of forms.
+#![tactic(auto)]
+
+mod hashes;
+mod ids;
+#[cfg(test)]
+mod tests;
+
+pub use hashes::{hash_matches, hash_text, is_hash};
+pub use ids::{Draws, Id, draw};
