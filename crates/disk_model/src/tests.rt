@@ -34,3 +34,55 @@ fn a_disk_in_memory_keeps_what_is_written(rt: HostRuntime) -> Result<(), Fail> {
     assert_eq!(rt; disk.len(), Ok(4));
     Ok(())
 }
+
+// Which of the six calls go through on a disk that stops at call k, and the bytes that it then has.
+const STOPS: [([bool; 6], &[u8]); 7] = [
+    ([false, false, false, false, false, false], b""),
+    ([true, false, false, false, false, false], b""),
+    ([true, true, false, false, false, false], b"oak"),
+    ([true, true, true, false, false, false], b"oak"),
+    ([true, true, true, true, false, false], b"elms"),
+    ([true, true, true, true, true, false], b"elms"),
+    ([true, true, true, true, true, true], b"elms"),
+];
+
+#[test]
+fn a_fused_disk_stops_at_each_call(rt: HostRuntime) -> Result<(), Fail> {
+    let alloc = rt.alloc();
+    let mut k = 1;
+    for (answers, bytes) in STOPS {
+        let mut disk = FusedDisk::make(empty(alloc)?, k);
+        assert_eq!(rt; play(&mut disk), answers);
+        assert_eq!(rt; disk.into_disk().bytes(), bytes);
+        k = k.saturating_add(1);
+    }
+    Ok(())
+}
+
+#[test]
+fn a_stumbling_disk_goes_on(rt: HostRuntime) -> Result<(), Fail> {
+    let alloc = rt.alloc();
+    let mut disk = StumbleDisk::make(empty(alloc)?, [2, 6].to_vec(alloc)?);
+    assert_eq!(rt; play(&mut disk), [true, false, true, true, true, false]);
+    assert_eq!(rt; disk.write_at(4, b"!"), Ok(()));
+    assert_eq!(rt; disk.into_disk().bytes(), b"elms!".as_slice());
+    Ok(())
+}
+
+#[test]
+fn a_file_is_a_disk(rt: HostRuntime) -> Result<(), Fail> {
+    let mut disk = FileDisk::open(&rt, ".", "trial.disk");
+    let mut want = [true; 6];
+    assert_eq!(rt; play(&mut disk), want);
+    let mut again = FileDisk::open(&rt, ".", "trial.disk");
+    let mut buf = [0; 9];
+    assert_eq!(rt; again.len(), Ok(4));
+    assert_eq!(rt; again.read(1, &mut buf), Ok(3));
+    assert_eq!(rt; &buf[..3], b"lms".as_slice());
+    want = [false; 6];
+    let mut missing = FileDisk::open(&rt, ".", "no/such/folder");
+    assert_eq!(rt; play(&mut missing), want);
+    assert_eq!(rt; missing.len(), Err(Failed));
+    std::fs::remove_file(&rt, "trial.disk")?;
+    Ok(())
+}
