@@ -77,6 +77,10 @@ pub trait Disk {
     fn moment(&self) -> u64
         ensures { result ≡ clock self.now };
 
+    /// How many calls have failed.
+    fn fault_count(&self) -> u64
+        ensures { result ≡ faults self.now };
+
     /// A disk as it reads is one of its images.
     ghost reads_as: { (disk : Self) (bytes : List ℕ) → content disk ≡ Some bytes → may disk bytes };
 

@@ -114,6 +114,10 @@ impl Disk for FusedDisk {
     fn moment(&self) -> u64 {
         self.disk.moment()
     }
+
+    fn fault_count(&self) -> u64 {
+        self.counts.faults
+    }
 }
 
 /// A disk some of whose calls fail, and that goes on. Its calls are counted from 1.
@@ -220,5 +224,9 @@ impl Disk for StumbleDisk {
 
     fn moment(&self) -> u64 {
         self.disk.moment()
+    }
+
+    fn fault_count(&self) -> u64 {
+        self.counts.faults
     }
 }

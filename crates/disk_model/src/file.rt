@@ -149,4 +149,8 @@ impl<F: Read + Write + Seek + OpenFile + Drop> Disk for FileDisk<F> {
     fn moment(&self) -> u64 {
         self.counts.calls
     }
+
+    fn fault_count(&self) -> u64 {
+        self.counts.faults
+    }
 }

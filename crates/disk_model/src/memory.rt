@@ -178,4 +178,8 @@ impl Disk for MemDisk {
     fn moment(&self) -> u64 {
         self.calls.len() as u64
     }
+
+    fn fault_count(&self) -> u64 {
+        self.counts.faults
+    }
 }

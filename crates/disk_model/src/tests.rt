@@ -27,6 +27,7 @@ fn a_disk_in_memory_keeps_what_is_written(rt: HostRuntime) -> Result<(), Fail> {
     assert_eq!(rt; play(&mut disk), [true; 6]);
     assert_eq!(rt; disk.bytes(), b"elms".as_slice());
     assert_eq!(rt; disk.moment(), 6);
+    assert_eq!(rt; disk.fault_count(), 0);
     let mut buf = [9; 4];
     assert_eq!(rt; disk.read(1, &mut buf), Ok(3));
     assert_eq!(rt; buf, *b"lms\x09");
@@ -49,12 +50,11 @@ const STOPS: [([bool; 6], &[u8]); 7] = [
 #[test]
 fn a_fused_disk_stops_at_each_call(rt: HostRuntime) -> Result<(), Fail> {
     let alloc = rt.alloc();
-    let mut k = 1;
-    for (answers, bytes) in STOPS {
+    for (k, (answers, bytes)) in (1..8).zip(STOPS) {
         let mut disk = FusedDisk::make(empty(alloc)?, k);
         assert_eq!(rt; play(&mut disk), answers);
+        assert_eq!(rt; disk.fault_count(), 7 - k);
         assert_eq!(rt; disk.into_disk().bytes(), bytes);
-        k = k.saturating_add(1);
     }
     Ok(())
 }
