@@ -1,0 +1,12 @@
+//! How the bytes of a script become lines and words, and how a text is printed in a line.
+#![tactic(auto)]
+
+mod lines;
+mod printed;
+#[cfg(test)]
+mod tests;
+mod word;
+
+pub use lines::{next_line, without_return};
+pub use printed::{print_text, printed_words_are_read};
+pub use word::{is_skipped, words};
