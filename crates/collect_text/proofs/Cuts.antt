@@ -1,5 +1,5 @@
 -- Where a script is cut into lines, and the end of a line.
-use Rattle.std.proofs.Common.{◌≡◌, ℕ, zero, suc, ◌+◌, ◌<◌, Bool, true, false, cond, eqb, List, [], ◌∷◌, ◌++◌, length, get_or, take, drop, refl, ap, ◌∙◌, arith}
+use Rattle.std.proofs.Common.{◌≡◌, ℕ, zero, suc, ◌<◌, Bool, true, false, cond, eqb, List, [], ◌∷◌, ◌++◌, length, get_or, take, drop, refl, ap, ◌∙◌, arith}
 use Rattle.collect_text.specs.Lines.{in_front, lines_of, without_return}
 
 pub is_false : (b : Bool) → (b ≡ true → ⊥) → b ≡ false

@@ -1,13 +1,12 @@
 -- What is printed is read again.
-use Rattle.std.proofs.Common.{◌≡◌, ℕ, ◌<◌, ◌≤◌, Bool, true, false, not, cond, ◌&&◌, ◌||◌, eqb, ltb, leb, List, [], ◌∷◌, ◌++◌, length, get_or, refl, sym, ap, ◌∙◌, arith, append_assoc, append-nil, inl, inr, Option, Some, None, IsUtf8}
-use Rattle.std.specs.Prelude.{◌⊎◌, All, IsTrue, option_and_then}
+use Rattle.std.proofs.Common.{◌≡◌, ℕ, Bool, true, false, not, cond, ◌&&◌, eqb, ltb, List, [], ◌∷◌, ◌++◌, length, refl, sym, ap, ◌∙◌, arith, append_assoc, append-nil, inl, inr, Option, Some, None}
+use Rattle.std.specs.Prelude.{◌⊎◌, All, option_and_then}
 use Rattle.std.specs.List.{flat_map, list_all, AllByRecursion}
-use Rattle.std.specs.Str.{is_utf8}
 use Rattle.std.proofs.lemmas.Bool.Decides.{nat_tests, eqb_tells}
 use Rattle.std.proofs.lemmas.Str.{is_utf8-from_IsUtf8}
 use Rattle.std.proofs.lemmas.List.Concat.{flat_map-cons}
 use Rattle.std.proofs.lemmas.List.Elements.{recursion_from_All}
-use Rattle.collect_text.specs.Words.{is_bare, unescaped, spelled, between, bare, quoted, escaped, closed, byte_then, end_then, all_utf8, texts_only, words_of}
+use Rattle.collect_text.specs.Words.{is_bare, spelled, between, bare, quoted, byte_then, all_utf8, texts_only, words_of}
 use Rattle.collect_text.specs.Parts.{word_then, ends_word}
 use Rattle.collect_text.specs.Printed.{is_bare_word, escape, printed_text, printed_words, is_legible, IsLegible}
 use Rattle.collect_text.proofs.Reading.{bytes_then, bytes_then-none, bytes_then-end, closed-end}

@@ -1,4 +1,3 @@
-use Rattle.std.proofs.Common.{ap, arith, is_ok}
 use Rattle.collect_text.proofs.Reading.{text_read}
 use Rattle.collect_text.proofs.word.words.Goals as goal
 
