@@ -1,0 +1,10 @@
+pub mod Fronts
+pub mod Numbers
+pub mod Cuts
+pub mod Skips
+pub mod Steps
+pub mod NameLaws
+pub mod DataLaws
+pub mod TagLaws
+pub mod PieceLaws
+pub mod Loops
