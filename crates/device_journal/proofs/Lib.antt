@@ -1,0 +1,7 @@
+mod Appended
+mod Calls
+mod Chains
+mod Images
+mod Openings
+mod ReadTo
+mod Unique

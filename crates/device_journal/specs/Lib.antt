@@ -1,0 +1,5 @@
+pub mod Frames
+pub mod Moments
+pub mod Sound
+pub mod Journal
+pub mod Opened
