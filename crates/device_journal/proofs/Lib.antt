@@ -4,4 +4,4 @@ mod Chains
 mod Images
 mod Openings
 mod ReadTo
-mod Unique
+pub mod Unique

@@ -61,6 +61,9 @@ impl<D: Disk> Journal<D> {
         ensures any_moment { journal_failed self.old ≡ None → (payloads : List (List ℕ)) → Stands (D.content (journal_disk self.old)) payloads
             → LeavesOnly D.clock D.since (journal_disk self.old) (journal_disk self.new) (IsBeforeOrAfter payloads payload.now) }
 
+        ensures opened { journal_opened self.new ≡ journal_opened self.old }
+        ensures kept { OnOk result (D.faults (journal_disk self.new) ≡ D.faults (journal_disk self.old)) }
+
         ensures moment { IfOk result (λ moment. moment ≡ D.clock (journal_disk self.new)) }
         ensures durable { (payloads : List (List ℕ)) → Stands (D.content (journal_disk self.old)) payloads
             → IfOk result (λ moment. (c : List ℕ) → D.since (journal_disk self.new) moment c → HasFrames c (payloads ++ payload.now ∷ [])) }
@@ -95,6 +98,13 @@ impl<D: Disk> Journal<D> {
         }
         self.gate = self.gate + 5 + size;
         Ok(self.disk.moment())
+    }
+
+    /// The disk's count of faults when an append met one, if one has.
+    pub fn failed(&self) -> Option<u64>
+        ensures { result ≡ journal_failed self.now }
+    {
+        self.failed
     }
 
     /// How many bytes the journal has: one more than the place of the gate behind the last frame.

@@ -11,3 +11,8 @@ pub fn frames_are_unique()
 pub fn off_stands_for_nothing()
     ensures { (image : List ℕ) (payloads : List (List ℕ)) (at : ℕ) → HasFrames image payloads → IsOffAt image at → ⊥ }
 {}
+
+/// An image is off at one place at most.
+pub fn an_image_is_off_at_one_place()
+    ensures { (image : List ℕ) (at other : ℕ) → IsOffAt image at → IsOffAt image other → at ≡ other }
+{}

@@ -13,5 +13,5 @@ mod tests;
 
 pub use fault::{AppendFault, OpenFault};
 pub use journal::Journal;
-pub use laws::{frames_are_unique, off_stands_for_nothing};
+pub use laws::{an_image_is_off_at_one_place, frames_are_unique, off_stands_for_nothing};
 pub use opening::open_journal;

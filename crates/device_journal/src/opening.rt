@@ -24,6 +24,8 @@ fn read_image<D: Disk>(alloc: Global, disk: &mut D) -> Result<Vec<u8>, OpenFault
     ensures bytes { IfOk result (λ bytes. (image : List ℕ) → D.content disk.old ≡ Some image → bytes.items ≡ image) }
     ensures content { D.content disk.new ≡ D.content disk.old }
     ensures images { AddsNoImage D.clock D.may D.since disk.old disk.new }
+    ensures kept { OnOk result (D.faults disk.new ≡ D.faults disk.old) }
+    ensures kept_err { IfErr result (λ fault. fault ≢ DiskFault → D.faults disk.new ≡ D.faults disk.old) }
     ensures later { D.faults disk.old ≤ D.faults disk.new }
     ensures cause { IsErrOf result DiskFault → Rose (D.faults disk.old) (D.faults disk.new) }
     ensures none_off { (at : ℕ) → IsErrOf result (BadJournal at) → ⊥ }
@@ -63,6 +65,8 @@ fn read_or_create<D: Disk>(alloc: Global, disk: &mut D) -> Result<(Items<Blob>, 
     ensures opened { IfOk result (λ r. IsOpened (D.content disk.old) (D.content disk.new) r.0 r.1) }
     ensures only { OnOk result (Only (D.content disk.new) (D.may disk.new)) }
     ensures off { (at : ℕ) → IsErrOf result (BadJournal at) → (image : List ℕ) → D.content disk.old ≡ Some image → IsOffAt image at }
+    ensures kept { OnOk result (D.faults disk.new ≡ D.faults disk.old) }
+    ensures kept_err { IfErr result (λ fault. fault ≢ DiskFault → D.faults disk.new ≡ D.faults disk.old) }
     ensures later { D.faults disk.old ≤ D.faults disk.new }
     ensures cause { IsErrOf result DiskFault → Rose (D.faults disk.old) (D.faults disk.new) }
     ensures faults { IfErr result OfOpening }
@@ -94,6 +98,8 @@ fn find<D: Disk>(alloc: Global, disk: &mut D) -> Result<Found, OpenFault>
     ensures only { OnOk result (Only (D.content disk.new) (D.may disk.new)) }
     ensures room { IfOk result (λ f. vec_len f.room ≡ 524288) }
     ensures off { (at : ℕ) → IsErrOf result (BadJournal at) → (image : List ℕ) → D.content disk.old ≡ Some image → IsOffAt image at }
+    ensures kept { OnOk result (D.faults disk.new ≡ D.faults disk.old) }
+    ensures kept_err { IfErr result (λ fault. fault ≢ DiskFault → D.faults disk.new ≡ D.faults disk.old) }
     ensures later { D.faults disk.old ≤ D.faults disk.new }
     ensures cause { IsErrOf result DiskFault → Rose (D.faults disk.old) (D.faults disk.new) }
     ensures faults { IfErr result OfOpening }
@@ -121,6 +127,8 @@ fn prepare<D: Disk>(alloc: Global, disk: &mut D) -> Result<Found, OpenFault>
     ensures only { OnOk result (Only (D.content disk.new) (D.may disk.new)) }
     ensures room { IfOk result (λ f. vec_len f.room ≡ 524288) }
     ensures off { (at : ℕ) → IsErrOf result (BadJournal at) → (image : List ℕ) → D.content disk.old ≡ Some image → IsOffAt image at }
+    ensures kept { OnOk result (D.faults disk.new ≡ D.faults disk.old) }
+    ensures kept_err { IfErr result (λ fault. fault ≢ DiskFault → D.faults disk.new ≡ D.faults disk.old) }
     ensures later { D.faults disk.old ≤ D.faults disk.new }
     ensures cause { IsErrOf result DiskFault → Rose (D.faults disk.old) (D.faults disk.new) }
     ensures faults { IfErr result OfOpening }
@@ -148,8 +156,9 @@ pub fn open_journal<D: Disk>(
 
     ensures off { IfErr result (λ e. (at : ℕ) → e.1 ≡ BadJournal at → (image : List ℕ) → D.content disk ≡ Some image → IsOffAt image at) }
     ensures cause { IfErr result (λ e. e.1 ≡ DiskFault → Rose (D.faults disk) (D.faults e.0)) }
-    ensures faults { IfErr result (λ e. OfOpening e.1) }
-    ensures later { IfOk result (λ r. D.faults disk ≤ D.faults (journal_disk r.0)) }
+    ensures fault { IfErr result (λ e. OfOpening e.1) }
+    ensures kept { IfOk result (λ r. D.faults (journal_disk r.0) ≡ D.faults disk) }
+    ensures kept_err { IfErr result (λ e. e.1 ≢ DiskFault → D.faults e.0 ≡ D.faults disk) }
     ensures later_err { IfErr result (λ e. D.faults disk ≤ D.faults e.0) }
 {
     match prepare(alloc, &mut disk) {
