@@ -1,0 +1,4 @@
+pub mod AllRecords
+pub mod ColumnLemmas
+pub mod RowLemmas
+pub mod TableLemmas

@@ -1,0 +1,13 @@
+use Rattle.std.proofs.Common.{Err, ◌≡◌, ◌∙◌, true≢false, sym, arith, ap, subst, take, length, refl}
+use Rattle.std.specs.Str.{IsUtf8, IsValidUpTo, is_utf8}
+use Rattle.std.proofs.lemmas.Str.{IsUtf8-from_is_utf8}
+use Rattle.std.proofs.Math.Seq.{take-length}
+use Rattle.entity_lists.proofs.server_rows.text_of.Goals as goal
+
+-- bytes that are UTF-8 have no longest front that isn't all of them
+pub unreachable-requires : goal.unreachable-requires
+unreachable-requires c =
+    let bytes = c.args.bytes.now in
+    let at = c.in-Err-NotUtf8.field-0-0 in
+    let broken : IsValidUpTo bytes at = c.from_bytes.ensures.not_utf8 at (c.in-Err-NotUtf8.is ∙ ap Err c.in-Err-NotUtf8.field-0-is) in
+    broken.longest (length bytes) broken.short (rw take-length (IsUtf8-from_is_utf8 bytes c.requires))

@@ -1,0 +1,3 @@
+pub mod CsvRecords
+pub mod EntityTables
+pub mod ServerRows
