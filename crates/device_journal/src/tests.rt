@@ -88,7 +88,13 @@ fn run_until(alloc: Global, k: u64) -> Result<(MemDisk, usize), NoMemory> {
         Ok((mut journal, _)) => {
             let first = journal.append(b"oak").is_ok();
             let second = journal.append(b"elm").is_ok();
-            let done = usize::from(first) + usize::from(second);
+            let done = if second {
+                2
+            } else if first {
+                1
+            } else {
+                0
+            };
             Ok((journal.into_disk().into_disk(), done))
         }
         Err((fused, _)) => Ok((fused.into_disk(), 0)),
@@ -103,10 +109,11 @@ fn what_was_answered_is_found_again(rt: HostRuntime) -> Result<(), Fail> {
         let Ok((_, payloads)) = open_journal(alloc, disk) else {
             return Err("not opened again".into());
         };
-        assert!(rt; payloads.len() >= done);
-        assert!(rt; payloads.len() <= done + 1);
-        assert_eq!(rt; is_payload(&payloads, 0, b"oak"), !payloads.is_empty());
-        assert_eq!(rt; is_payload(&payloads, 1, b"elm"), payloads.len() == 2);
+        let found = payloads.len();
+        assert!(rt; found >= done);
+        assert!(rt; found - done <= 1);
+        assert_eq!(rt; is_payload(&payloads, 0, b"oak"), found > 0);
+        assert_eq!(rt; is_payload(&payloads, 1, b"elm"), found > 1);
     }
     Ok(())
 }
