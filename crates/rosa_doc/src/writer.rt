@@ -1,0 +1,61 @@
+ghost use Rattle.std.specs.Prelude.{◌≡◌, ◌++◌, OnOk, encode_utf8};
+ghost use Rattle.std.specs.List.{flat_map};
+ghost use Rattle.std.specs.Str.{chars};
+ghost use Rattle.rosa_doc.specs.Escapes.{in_text, in_value};
+
+use field_text::xml::xml_char_of;
+use field_text::{NoMemory, Text};
+
+/// Appends the text as it stands between tags.
+pub fn write_text(text: &Text, out: &mut Vec<u8>) -> Result<(), NoMemory>
+    ensures { OnOk result (out.new.items ≡ out.old.items ++ flat_map in_text (chars text.now)) }
+{
+    for c in text.as_str().chars() {
+        push_in_text(c, out)?;
+    }
+    Ok(())
+}
+
+/// Appends the text as it stands in an attribute's value between double quotes.
+pub fn write_attr(text: &Text, out: &mut Vec<u8>) -> Result<(), NoMemory>
+    ensures { OnOk result (out.new.items ≡ out.old.items ++ flat_map in_value (chars text.now)) }
+{
+    for c in text.as_str().chars() {
+        push_in_value(c, out)?;
+    }
+    Ok(())
+}
+
+fn push_in_text(c: char, out: &mut Vec<u8>) -> Result<(), NoMemory>
+    ensures { OnOk result (out.new.items ≡ out.old.items ++ in_text c) }
+{
+    match c {
+        '&' => out.extend_from_slice(b"&amp;")?,
+        '<' => out.extend_from_slice(b"&lt;")?,
+        '>' => out.extend_from_slice(b"&gt;")?,
+        '\r' => out.extend_from_slice(b"&#13;")?,
+        _ => push_char(xml_char_of(c), out)?,
+    }
+    Ok(())
+}
+
+fn push_in_value(c: char, out: &mut Vec<u8>) -> Result<(), NoMemory>
+    ensures { OnOk result (out.new.items ≡ out.old.items ++ in_value c) }
+{
+    match c {
+        '"' => out.extend_from_slice(b"&quot;")?,
+        '\t' => out.extend_from_slice(b"&#9;")?,
+        '\n' => out.extend_from_slice(b"&#10;")?,
+        _ => push_in_text(c, out)?,
+    }
+    Ok(())
+}
+
+/// Appends the UTF-8 of a character.
+fn push_char(c: char, out: &mut Vec<u8>) -> Result<(), NoMemory>
+    ensures { OnOk result (out.new.items ≡ out.old.items ++ encode_utf8 c) }
+{
+    let mut buffer = [0; 4];
+    out.extend_from_slice(c.encode_utf8(&mut buffer).as_bytes())?;
+    Ok(())
+}
