@@ -1,0 +1,102 @@
+ghost use Rattle.std.specs.Prelude.{◌≡◌, ◌≢◌, ◌++◌, codes, string_bytes, IfOk, OnOk, OnErr};
+ghost use Rattle.collect_text.specs.Answers.{printed_answer, printed_refused, printed_word, refusal_text, mode_word, switch_word, IsWord};
+
+use crate::Line;
+use device_core::{Answer, Refused, Settings, Which};
+use field_text::{Mode, NoMemory};
+use std::alloc::{AllocError, Global};
+
+/// Appends the line of an answer at a position.
+pub fn print_answer(
+    alloc: Global,
+    position: u64,
+    answer: &Answer,
+    out: &mut Vec<u8>,
+) -> Result<(), NoMemory>
+    ensures ok { OnOk result (out.new.items ≡ out.old.items ++ printed_answer position answer.now) }
+    ensures err { OnErr result (out.new.items ≡ out.old.items) }
+{
+    let line = match answer {
+        Answer::Done => format!(in alloc; "{position} ok\n")?,
+        Answer::Settings(Settings { mode, auto_send }) => {
+            let text = settings_text(alloc, mode_word(*mode), switch_word(*auto_send))?;
+            format!(in alloc; "{position} {text}\n")?
+        }
+    };
+    Ok(out.extend_from_slice(line.as_bytes())?)
+}
+
+// How the device is set, in words.
+fn settings_text(alloc: Global, mode: &str, auto_send: &str) -> Result<String, AllocError>
+    ensures { IfOk result (λ text. string_bytes text ≡ codes "settings mode " ++ mode.now ++ codes " autosend " ++ auto_send.now) }
+{
+    let mut text = String::from_str(alloc, "settings mode ")?;
+    text.push_str(mode)?;
+    text.push_str(" autosend ")?;
+    text.push_str(auto_send)?;
+    Ok(text)
+}
+
+fn mode_word(mode: Mode) -> &'static str
+    ensures { result.now ≡ mode_word mode }
+{
+    match mode {
+        Mode::Manual => "manual",
+        Mode::Previous => "previous",
+        Mode::Exact => "exact",
+    }
+}
+
+fn switch_word(on: bool) -> &'static str
+    ensures { result.now ≡ switch_word on }
+{
+    if on { "on" } else { "off" }
+}
+
+/// Appends the line of a refusal at a position. Want of memory has no line of its own.
+pub fn print_refused(
+    alloc: Global,
+    position: u64,
+    why: &Refused,
+    out: &mut Vec<u8>,
+) -> Result<(), NoMemory>
+    requires { why.now ≢ Refused.NoMemory }
+    ensures ok { OnOk result (out.new.items ≡ out.old.items ++ printed_refused position why.now) }
+    ensures err { OnErr result (out.new.items ≡ out.old.items) }
+{
+    let reason = reason(alloc, why)?;
+    let line = format!(in alloc; "{position} refused {reason}\n")?;
+    Ok(out.extend_from_slice(line.as_bytes())?)
+}
+
+fn reason(alloc: Global, why: &Refused) -> Result<String, AllocError>
+    ensures { IfOk result (λ text. string_bytes text ≡ refusal_text why.now) }
+{
+    match why {
+        Refused::BadValue => String::from_str(alloc, "1 value"),
+        Refused::Limit { which, number } => match which {
+            Which::Counters => format!(in alloc; "19 limit counters {number}"),
+        },
+        Refused::NoMemory => String::from_str(alloc, "23 memory"),
+        Refused::NotBuilt => String::from_str(alloc, "24 not-built"),
+    }
+}
+
+/// Appends the line of the end of the script, or of a line that isn't known yet.
+pub fn print_word(
+    alloc: Global,
+    position: u64,
+    line: &Line,
+    out: &mut Vec<u8>,
+) -> Result<(), NoMemory>
+    requires { IsWord line.now }
+    ensures ok { OnOk result (out.new.items ≡ out.old.items ++ printed_word position line.now) }
+    ensures err { OnErr result (out.new.items ≡ out.old.items) }
+{
+    let word = match line {
+        Line::Quit => "bye",
+        _ => "not built",
+    };
+    let line = format!(in alloc; "{position} {word}\n")?;
+    Ok(out.extend_from_slice(line.as_bytes())?)
+}

@@ -1,0 +1,6 @@
+pub mod Causes
+pub mod Gains
+pub mod Lines
+pub mod Runs
+pub mod Steps
+pub mod Transcripts
