@@ -1,0 +1,6 @@
+mod Appending
+mod Crashes
+mod Opening
+mod Payloads
+mod Replays
+mod Spellings

@@ -1,0 +1,239 @@
+ghost use Rattle.std.specs.Prelude.{option_to_list, List, ◌≡◌, ◌≤◌, ◌+◌, ◌++◌, ◌∷◌, [], ◌<◌, ℕ, length, take, Some, None, Ok, Err, IsTrue, IfOk, IfErr, IsErrOf, OnOk};
+ghost use Rattle.entry_codec.specs.Spelling.{spelling};
+ghost use Rattle.device_journal.specs.Frames.{end_of, limit};
+ghost use Rattle.device_core.specs.State.{initial, answer_to};
+ghost use Rattle.device_core.specs.Step.{is_opening, Prepares};
+ghost use Rattle.device_core.specs.Device.{IsLoaded};
+ghost use Rattle.device_core.specs.Images.{payloads_of};
+ghost use Rattle.device_journal.specs.Moments.{LeavesFrom, LeavesAsRead, IsAsRead};
+ghost use Rattle.device_core.specs.Crash.{AddsOnly, Crash, HasAtLeast, HasCrash, IsLeft, LeavesUnopened};
+ghost use Rattle.device_core.specs.Trail.{entries_of, IsOpened, Appends, replay};
+ghost use Rattle.device_core.specs.Faults.{ContentReadsAs, IsFull, IsOpenFault, IsSubmitFault};
+
+use crate::answer::Query;
+use crate::append::{discard, keep_rest, make_step, spell_with_room};
+use crate::fault::{SubmitFault, Told, open_fault};
+use crate::refused::Refused;
+use crate::replay::recover;
+use crate::state::State;
+use crate::step::{Prepared, begin, decide};
+use crate::trail::{Marked, Trail};
+use device_journal::{AppendFault, Journal, OpenFault, open_journal};
+use disk_model::Disk;
+use entry_form::{Command, Entry, Hand, Opening};
+use field_text::Items;
+use std::alloc::Global;
+use std::marker::Model;
+
+/// A device over a disk.
+#[derive(Drop)]
+pub struct Device<D: Disk> {
+    journal: Journal<D>,
+    state: State,
+    entries: Vec<Marked>,
+    found: u64,
+    // the entry whose append met a fault of the disk
+    rest: Option<Entry>,
+}
+
+impl<D: Disk> Model for Device<D> {
+    ghost use Rattle.device_core.specs.Trail.{DeviceView};
+
+    ghost Value = { DeviceView D };
+
+    ghost use Rattle.device_journal.specs.Journal.{journal_length};
+    ghost use Rattle.device_core.specs.Device.{shown, IsKept};
+
+    ghost view = { λ d. shown d.journal d.state d.entries.items d.found d.rest };
+
+    ghost invariant = { λ d. IsKept D.content D.since D.clock (journal_length d.journal) (shown d.journal d.state d.entries.items d.found d.rest) };
+}
+
+// A device with the entries of a disk's journal.
+fn load<D: Disk>(alloc: Global, disk: D) -> Result<Device<D>, (D, OpenFault)>
+    ensures loaded { IfOk result IsLoaded }
+    ensures any_moment { IfOk result (λ device. LeavesFrom D.clock D.since disk device.disk device.opened (IsAsRead (D.content disk))) }
+    ensures any_moment_err { IfErr result (λ e. LeavesAsRead D.clock D.may D.since (D.content disk) disk e.0) }
+    ensures read { IfOk result (λ device. ContentReadsAs D.content disk (Ok (entries_of device.entries))) }
+    ensures kept { IfOk result (λ device. D.faults device.disk ≡ D.faults disk) }
+    ensures fault { IfErr result (λ e. IsOpenFault D.content D.faults disk e.0 e.1) }
+{
+    let (journal, payloads) = match open_journal(alloc, disk) {
+        Ok(opened) => opened,
+        Err((disk, fault)) => return Err((disk, fault)),
+    };
+    match recover(alloc, payloads.as_slice(), journal.opened()) {
+        Ok((state, entries)) => {
+            let found = entries.len() as u64;
+            Ok(Device {
+                journal,
+                state,
+                entries,
+                found,
+                rest: None,
+            })
+        }
+        Err(fault) => Err((journal.into_disk(), fault)),
+    }
+}
+
+impl<D: Disk> Device<D> {
+    /// Opens the device on a journal, replays its entries, and appends the opening. A refusal gives the disk back.
+    pub fn open_device(
+        alloc: Global,
+        disk: D,
+        opening: Opening,
+    ) -> Result<Device<D>, (D, OpenFault)>
+        requires { IsTrue (is_opening opening) }
+        ensures opened { IfOk result (IsOpened (Entry.Opened opening)) }
+        ensures read { IfOk result (λ device. ContentReadsAs D.content disk (Ok (take device.found (entries_of device.entries)))) }
+        ensures kept { IfOk result (λ device. D.faults device.disk ≡ D.faults disk) }
+        ensures fault { IfErr result (λ e. IsOpenFault D.content D.faults disk e.0 e.1) }
+
+        // Until the first sync a crash leaves what it might have left before; from then on what was read, or what was
+        // read and the opening.
+        ensures any_moment { IfOk result (λ device. LeavesFrom D.clock D.since disk device.disk device.opened (IsLeft (D.content disk) (Entry.Opened opening))) }
+        ensures any_moment_err { IfErr result (λ e. LeavesUnopened D.clock D.may D.since (D.content disk) (Entry.Opened opening) disk e.0) }
+        ensures crash { IfOk result (HasCrash D.since D.clock) }
+    {
+        let mut device = match load(alloc, disk) {
+            Ok(device) => device,
+            Err((disk, fault)) => return Err((disk, fault)),
+        };
+        let Ok(prepared) = begin(alloc, &device.state, opening) else {
+            return Err((device.into_disk(), OpenFault::NoMemory));
+        };
+        match device.append(alloc, prepared) {
+            Ok(_) => Ok(device),
+            Err(fault) => Err((device.into_disk(), open_fault(fault))),
+        }
+    }
+
+    /// Carries a hand's command out. At `Ok` its entry lasts.
+    pub fn submit(
+        &mut self,
+        alloc: Global,
+        hand: Hand,
+        command: Command,
+    ) -> Result<Told, SubmitFault>
+        ensures appended { IfOk result (λ told. Appends (Entry.Done hand command) told.position told.answer self.old self.new) }
+        ensures kept { IfOk result (λ told. D.faults self.new.disk ≡ D.faults self.old.disk) }
+        ensures fault { IfErr result (IsSubmitFault D.content D.faults (Entry.Done hand command) self.old self.new) }
+        ensures failed { (count : ℕ) → self.old.failed ≡ Some count → result ≡ Err (SubmitFault.Failed count) }
+        ensures full { (size : ℕ) → IsErrOf result (SubmitFault.Full size) → IsFull (entries_of self.old.entries) (Entry.Done hand command) size }
+        ensures room { OnOk result (end_of (payloads_of (entries_of self.old.entries)) + 5 + length (spelling (Entry.Done hand command)) ≤ limit) }
+        ensures opened { self.new.opened ≡ self.old.opened }
+        ensures stopped { IsErrOf result SubmitFault.DiskFault → (self.new.failed ≡ Some (D.faults self.new.disk)) × (self.new.rest ≡ Some (Entry.Done hand command)) }
+
+        // A crash at any moment of the call leaves the entries from before it, with the new one or without.
+        ensures any_moment { AddsOnly D.since D.clock self.old.disk self.new.disk (HasAtLeast (entries_of self.old.entries ++ Entry.Done hand command ∷ []) (length self.old.entries)) }
+        ensures durable { IfOk result (λ told. (c : List ℕ) → D.since self.new.disk (D.clock self.new.disk) c → HasAtLeast (entries_of self.new.entries) told.position c) }
+        ensures crash { HasCrash D.since D.clock self.new }
+    {
+        if let Some(faults) = self.journal.failed() {
+            return Err(SubmitFault::Failed { faults });
+        }
+        match decide(&self.state, hand, command) {
+            Ok(prepared) => self.append(alloc, prepared),
+            Err(why) => Err(SubmitFault::Refused {
+                position: self.position(),
+                why,
+            }),
+        }
+    }
+
+    // Makes the entry of a step last, and makes the step.
+    fn append(&mut self, alloc: Global, prepared: Prepared) -> Result<Told, SubmitFault>
+        requires { Prepares self.old.state prepared.entry prepared }
+        ensures appended { IfOk result (λ told. Appends prepared.entry told.position told.answer self.old self.new) }
+        ensures kept { IfOk result (λ told. D.faults self.new.disk ≡ D.faults self.old.disk) }
+        ensures fault { IfErr result (IsSubmitFault D.content D.faults prepared.entry self.old self.new) }
+        ensures refused { (position : ℕ) (why : _) → IsErrOf result (SubmitFault.Refused position why) → why ≡ Refused.NoMemory }
+        ensures full { (size : ℕ) → IsErrOf result (SubmitFault.Full size) → IsFull (entries_of self.old.entries) prepared.entry size }
+        ensures room { OnOk result (end_of (payloads_of (entries_of self.old.entries)) + 5 + length (spelling prepared.entry) ≤ limit) }
+        ensures opened { self.new.opened ≡ self.old.opened }
+        ensures stopped { IsErrOf result SubmitFault.DiskFault → (self.new.failed ≡ Some (D.faults self.new.disk)) × (self.new.rest ≡ Some prepared.entry) }
+        ensures any_moment { AddsOnly D.since D.clock self.old.disk self.new.disk (HasAtLeast (entries_of self.old.entries ++ prepared.entry ∷ []) (length self.old.entries)) }
+        ensures durable { IfOk result (λ told. (c : List ℕ) → D.since self.new.disk (D.clock self.new.disk) c → HasAtLeast (entries_of self.new.entries) told.position c) }
+        ensures crash { HasCrash D.since D.clock self.new }
+    {
+        let Ok(payload) = spell_with_room(alloc, prepared.entry(), &mut self.entries) else {
+            return Err(SubmitFault::Refused {
+                position: self.entries.len() as u64,
+                why: Refused::NoMemory,
+            });
+        };
+        match self.journal.append(&payload) {
+            Ok(moment) => {
+                let answer = make_step(&mut self.state, &mut self.entries, prepared, moment);
+                let position = self.entries.len() as u64;
+                Ok(Told { position, answer })
+            }
+            Err(AppendFault::Full { length }) => {
+                discard(prepared);
+                Err(SubmitFault::Full { length })
+            }
+            Err(AppendFault::Failed { faults }) => {
+                discard(prepared);
+                Err(SubmitFault::Failed { faults })
+            }
+            Err(AppendFault::DiskFault) => {
+                keep_rest(&mut self.rest, prepared);
+                Err(SubmitFault::DiskFault)
+            }
+        }
+    }
+
+    fn into_disk(self) -> D
+        ensures { result ≡ self.disk }
+    {
+        let Device {
+            journal,
+            state: _,
+            entries: _,
+            found: _,
+            rest: _,
+        } = self;
+        journal.into_disk()
+    }
+
+    /// What a query is answered on the device's state.
+    pub fn ask(&self, query: Query) -> Told
+        ensures position { result.position ≡ length self.now.entries }
+        ensures answer { result.answer ≡ answer_to self.now.state query }
+        ensures legal { replay initial (entries_of self.now.entries) ≡ Some self.now.state }
+    {
+        Told {
+            position: self.position(),
+            answer: self.state.answer(query),
+        }
+    }
+
+    /// The number of entries.
+    pub fn position(&self) -> u64
+        ensures count { result ≡ length self.now.entries }
+        ensures legal { replay initial (entries_of self.now.entries) ≡ Some self.now.state }
+    {
+        self.entries.len() as u64
+    }
+
+    /// The disk, and the entries with their moments after the initial state. It takes no memory.
+    pub fn into_parts(self, alloc: Global) -> (D, Trail)
+        ensures disk { result.0 ≡ self.disk }
+        ensures start { result.1.start ≡ initial }
+        ensures entries { result.1.entries ≡ self.entries }
+        ensures legal { replay initial (entries_of self.entries) ≡ Some self.state }
+        ensures crash { Crash D.since D.clock result.0 self.opened self.found result.1.entries (option_to_list self.rest) }
+    {
+        let Device {
+            journal,
+            state: _,
+            entries,
+            found: _,
+            rest: _,
+        } = self;
+        let start = State::initial(alloc);
+        let entries = Items::from_vec(entries);
+        (journal.into_disk(), Trail { start, entries })
+    }
+}

@@ -1,0 +1,139 @@
+// From the payloads of a journal to the state after its entries.
+ghost use Rattle.std.specs.Prelude.{OnOk, ◌++◌, ◌≡◌, ◌∷◌, [], ◌+◌, ◌<◌, ◌≤◌, ℕ, length, map, Some, Ok, IfOk, IfErr};
+ghost use Rattle.std.specs.List.{AllByRecursion};
+ghost use Rattle.device_journal.specs.declared.fault.OpenFault.TheVariants.{NoMemory as Starved};
+ghost use Rattle.entry_codec.specs.Spelling.{Fits, spelling};
+ghost use Rattle.device_core.specs.Images.{IsOffSpelling};
+ghost use Rattle.device_core.specs.Replay.{IsUnread, IsSpelledBy, IsReadFault, IsStepFault, IsReplayFault, IsRecoverFault, marked_at};
+ghost use Rattle.device_core.specs.State.{initial};
+ghost use Rattle.device_core.specs.Step.{Prepares, IsRefused};
+ghost use Rattle.device_core.specs.Trail.{entries_of, replay, state_after};
+
+use crate::refused::Refused;
+use crate::state::State;
+use crate::step::{Prepared, apply, begin, decide};
+use crate::trail::Marked;
+use device_journal::OpenFault;
+use entry_codec::{EntryRefused, read_entry};
+use entry_form::Entry;
+use field_text::Blob;
+use std::alloc::Global;
+
+// The entry that a payload at this position spells, and nothing more.
+fn read_payload(alloc: Global, payload: &[u8], position: u64) -> Result<Entry, OpenFault>
+    ensures read { IfOk result (λ entry. (payload.now ≡ spelling entry) × Fits entry) }
+    ensures fault { IfErr result (IsUnread payload.now position) }
+{
+    match read_entry(alloc, payload) {
+        Ok((entry, used)) => {
+            if used < payload.len() {
+                return Err(OpenFault::BadEntry { position });
+            }
+            Ok(entry)
+        }
+        Err(EntryRefused::BadSpelling { .. }) => Err(OpenFault::BadEntry { position }),
+        Err(EntryRefused::NoMemory) => Err(OpenFault::NoMemory),
+    }
+}
+
+// The entry of each payload.
+pub fn read_payloads(alloc: Global, payloads: &[Blob]) -> Result<Vec<Entry>, OpenFault>
+    ensures read { IfOk result (λ entries. IsSpelledBy payloads.now entries.items) }
+    ensures fault { IfErr result (IsReadFault payloads.now) }
+{
+    let mut entries = Vec::new(alloc);
+    for payload in payloads {
+        let position = entries.as_slice().len() as u64 + 1;
+        match read_payload(alloc, payload.bytes(), position) {
+            Ok(entry) => {
+                if entries.push(entry).is_err() {
+                    return Err(OpenFault::NoMemory);
+                }
+            }
+            Err(fault) => return Err(fault),
+        }
+    }
+    Ok(entries)
+}
+
+fn prepare(alloc: Global, state: &State, entry: Entry) -> Result<Prepared, Refused>
+    ensures prepared { IfOk result (λ p. Prepares state.now entry p) }
+    ensures refused { IfErr result (IsRefused state.now entry) }
+{
+    match entry {
+        Entry::Opened(opening) => begin(alloc, state, opening),
+        Entry::Done { hand, command } => decide(state, hand, command),
+    }
+}
+
+// Keeps an entry with its moment.
+fn keep(marked: &mut Vec<Marked>, entry: Entry, moment: u64) -> Result<(), OpenFault>
+    ensures kept { OnOk result (marked.new.items ≡ marked.old.items ++ marked_at moment entry ∷ []) }
+    ensures fault { IfErr result (λ fault. fault ≡ Starved) }
+{
+    match marked.push(Marked { entry, moment }) {
+        Ok(()) => Ok(()),
+        Err(_) => Err(OpenFault::NoMemory),
+    }
+}
+
+// Makes the step of an entry, and keeps it.
+fn step_on(
+    alloc: Global,
+    state: &mut State,
+    marked: &mut Vec<Marked>,
+    entry: Entry,
+    moment: u64,
+) -> Result<(), OpenFault>
+    ensures kept { OnOk result (marked.new.items ≡ marked.old.items ++ marked_at moment entry ∷ []) }
+    ensures stepped { OnOk result (state_after state.old entry ≡ Some state.new) }
+    ensures fault { IfErr result (IsStepFault state.old entry (length marked.old.items + 1)) }
+{
+    let position = marked.as_slice().len() as u64 + 1;
+    match prepare(alloc, state, entry) {
+        Ok(prepared) => {
+            let (entry, _answer) = apply(state, prepared);
+            keep(marked, entry, moment)
+        }
+        Err(Refused::NoMemory) => Err(OpenFault::NoMemory),
+        Err(_) => Err(OpenFault::IllegalEntry { position }),
+    }
+}
+
+// The state after these entries, which get this moment.
+pub fn replay(
+    alloc: Global,
+    entries: Vec<Entry>,
+    moment: u64,
+) -> Result<(State, Vec<Marked>), OpenFault>
+    ensures entries { IfOk result (λ r. entries_of r.1.items ≡ entries.items) }
+    ensures legal { IfOk result (λ r. replay initial (entries_of r.1.items) ≡ Some r.0) }
+    ensures marked { IfOk result (λ r. r.1.items ≡ map (marked_at moment) (entries_of r.1.items)) }
+    ensures fault { IfErr result (IsReplayFault entries.items) }
+{
+    let mut state = State::initial(alloc);
+    let mut marked = Vec::new(alloc);
+    let mut left = entries;
+    left.reverse();
+    while let Some(entry) = left.pop() {
+        step_on(alloc, &mut state, &mut marked, entry, moment)?;
+    }
+    Ok((state, marked))
+}
+
+// The state after the entries that payloads spell, and these entries.
+pub fn recover(
+    alloc: Global,
+    payloads: &[Blob],
+    moment: u64,
+) -> Result<(State, Vec<Marked>), OpenFault>
+    ensures spelled { IfOk result (λ r. IsSpelledBy payloads.now (entries_of r.1.items)) }
+    ensures legal { IfOk result (λ r. replay initial (entries_of r.1.items) ≡ Some r.0) }
+    ensures marked { IfOk result (λ r. r.1.items ≡ map (marked_at moment) (entries_of r.1.items)) }
+    ensures fault { IfErr result (IsRecoverFault payloads.now) }
+{
+    match read_payloads(alloc, payloads) {
+        Ok(entries) => replay(alloc, entries, moment),
+        Err(fault) => Err(fault),
+    }
+}
