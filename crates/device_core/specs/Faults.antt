@@ -5,21 +5,15 @@ use Rattle.entry_form.specs.declared.entry.Entry.{Entry}
 use Rattle.entry_codec.specs.Spelling.{spelling}
 use Rattle.device_journal.specs.declared.fault.OpenFault.{OpenFault}
 use Rattle.device_journal.specs.declared.fault.OpenFault.TheVariants as opening
-use Rattle.device_journal.specs.Frames.{HasFrames, IsOffAt, end_of, limit}
+use Rattle.device_journal.specs.Frames.{end_of, limit}
 use Rattle.device_core.specs.declared.fault.SubmitFault.{SubmitFault}
 use Rattle.device_core.specs.declared.fault.SubmitFault.TheVariants as submitting
 use Rattle.device_core.specs.Step.{IsRefused}
 use Rattle.device_core.specs.Trail.{DeviceView, Stays, IsLegal, replay, entries_of}
 use Rattle.device_core.specs.State.{initial}
-use Rattle.device_core.specs.Images.{StandsFor, IsOffFrom, IsRefusedFrom, payloads_of}
-
--- What the image of a journal reads as: a legal list of entries, or what is wrong with it.
-abbrev pub ReadsAs : List ℕ → Result (List Entry) OpenFault → Type 0
-ReadsAs image (Ok entries) = StandsFor image entries × IsLegal initial entries
-ReadsAs image (Err (opening.BadJournal at)) = IsOffAt image at
-ReadsAs image (Err (opening.BadEntry position)) = (payloads : List (List ℕ)) × HasFrames image payloads × IsOffFrom payloads position
-ReadsAs image (Err (opening.IllegalEntry position)) = (entries : List Entry) × StandsFor image entries × IsRefusedFrom entries position
-ReadsAs image (Err _) = ⊥
+use Rattle.device_core.specs.Images.{payloads_of}
+pub use Rattle.device_core.specs.Images.{ReadsAs}
+pub use Rattle.device_core.specs.Once.{reads_once}
 
 -- the image that a disk told is read so, if it told one
 abbrev pub ContentReadsAs : {D : Type 0} → (D → Option (List ℕ)) → D → Result (List Entry) OpenFault → Type 0

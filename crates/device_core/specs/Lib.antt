@@ -6,3 +6,4 @@ pub mod Images
 pub mod Replay
 pub mod Device
 pub mod Crash
+pub mod Once
