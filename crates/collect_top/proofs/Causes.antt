@@ -1,16 +1,28 @@
 -- What each status says, from how a call ended.
-use Rattle.std.proofs.Common.{◌≡◌, ◌⊎◌, ℕ, zero, suc, ◌≤◌, ◌<◌, List, [], Result, take, ◌++◌, length, Option, Some, None, IfSome, IsSome, Ok, Err, inl, inr, ⊎_elim, refl, ap, sym, ◌∙◌, subst, arith, length-append}
+use Rattle.std.proofs.Common.{◌≡◌, ◌≢◌, ◌⊎◌, ℕ, zero, suc, ◌+◌, ◌≤◌, ◌<◌, List, [], ◌∷◌, Result, take, ◌++◌, length, Option, Some, None, IfSome, IsSome, Ok, Err, inl, inr, ⊎_elim, refl, ap, sym, ◌∙◌, subst, arith, length-append}
+use Rattle.std.specs.Prelude.{option_to_list, slice_get}
+use Rattle.std.proofs.lemmas.List.{append-nil}
 use Rattle.entry_form.specs.declared.entry.Entry.{Entry}
 use Rattle.device_journal.specs.declared.fault.OpenFault.{OpenFault}
 use Rattle.device_journal.specs.declared.fault.OpenFault.TheVariants as opening
 use Rattle.device_core.specs.declared.trail.Trail.{Trail}
-use Rattle.device_core.specs.Faults.{ContentReadsAs, ReadsAs}
-use Rattle.device_core.proofs.OneReading.{not_both_ways}
+use Rattle.device_journal.specs.Frames.{end_of, limit}
+use Rattle.entry_codec.specs.Spelling.{spelling}
+use Rattle.device_core.specs.Faults.{ContentReadsAs, IsFullFor}
+use Rattle.device_core.specs.Images.{ReadsAs, payloads_of}
+use Rattle.device_core.proofs.Once.{reads_once}
+use Rattle.device_core.proofs.Payloads.{end_of-push, payloads-push}
 use Rattle.device_core.specs.Trail.{entries_of}
 use Rattle.collect_top.specs.declared.stop.Stop.TheVariants as stops
-use Rattle.collect_top.specs.Headline.{End, end_status, HasAnsweredFrom, HasPrinted, PutsFault, Finishes, LeavesCall, SerialRun, PrintedAnswers, StatusCauses, IsCause, IsRun, IsWhole, IsOpenedBy, FoundIs, Count, Rises, IsCalm}
+use Rattle.collect_top.specs.Crash.{Images, CrashPrefix}
+use Rattle.collect_top.specs.Headline.{End, end_status, BeginsAt, FitsWithRoom, HasAnsweredFrom, HasPrinted, HasRoom, IsFullOpening, PutsFault, Finishes, SerialRun, PrintedAnswers, StatusCauses, IsCause, IsRun, IsWhole, IsOpenedBy, FoundIs, Count, Rises, IsCalm, own_opening}
+use Rattle.collect_top.specs.Run.{LeavesCall}
 use Rattle.collect_top.specs.Script.{script_lines, most_bytes, Taken}
-use Rattle.collect_top.specs.Session.{KeepsSink}
+use Rattle.collect_top.specs.Session.{KeepsSink, room_of_lines}
+
+-- an image reads as entries, or something is wrong with it
+not_both_ways : (image : List ℕ) (found : List Entry) (fault : OpenFault) → ReadsAs image (Ok found) → ReadsAs image (Err fault) → ⊥
+not_both_ways image found fault good bad = absurd (cc (reads_once image (Ok found) (Err fault) good bad))
 
 -- the line of the stop behind the answers
 pub prints_all : (entries : List Entry) (first : ℕ) (script : List ℕ) (old between new : Option (List ℕ)) (before mid now : ℕ) (end : End)
@@ -54,6 +66,12 @@ taken_front left_old (Some rest) script taken is h some = (rest, let e : Some sc
 
 read_at : {D : Type 0} (content : D → Option (List ℕ)) (disk : D) (image : List ℕ) (r : Result (List Entry) OpenFault) → content disk ≡ Some image → ContentReadsAs content disk r → ReadsAs image r
 read_at content disk image r is h = let P : Option (List ℕ) → Type 0 = λ o. IfSome o (λ bytes. ReadsAs bytes r) in subst P is h
+
+-- one entry more is taken
+take_next : (entries : List Entry) (n : ℕ) (x : Entry) → slice_get entries n ≡ Some x → take (suc n) entries ≡ take n entries ++ x ∷ []
+take_next [] n x is = absurd (cc (is))
+take_next (e ∷ entries) zero x is = ap (λ y. y ∷ []) (cc (is))
+take_next (e ∷ entries) (suc n) x is = ap (λ l. e ∷ l) (take_next entries n x is)
 
 opened_reading : {D : Type 0} (content : D → Option (List ℕ)) (disk : D) (entries : List Entry) (first : ℕ) → 0 < first → FoundIs content disk entries first → (found : List Entry) × ContentReadsAs content disk (Ok found)
 opened_reading content disk entries zero some found = absurd (omega arith)
@@ -193,8 +211,61 @@ module _ {D : Type 0} (words : List (List ℕ)) (content : D → Option (List �
   complete (Err (stops.JournalFull size)) h script image found run calm calm_sink calm_disk is told short image_is good = inr (inr refl)
   complete (Err stops.ScriptTooLong) h script image found run calm calm_sink calm_disk is told short image_is good = let front = taken_front left_old left_new script taken is took told in let l = ap length front.1 ∙ length-append taken front.0 in let m = h.1 in absurd (omega arith)
 
-  pub status_causes : (end : End) → Cause end → IsWhole left_new end → IsOpenedBy first end → StatusCauses words content disk left_old left_new source sink disk_count (end_status end)
-  status_causes end h whole opened = record {
+  -- how a call ended with status 9
+  full_status : (end : End) → end_status end ≡ 9 → (size : ℕ) × (end ≡ Err (stops.JournalFull size))
+  full_status (Ok done) e = absurd (omega arith)
+  full_status (Err stops.Usage) e = absurd (omega arith)
+  full_status (Err stops.ReadFault) e = absurd (omega arith)
+  full_status (Err stops.WriteFault) e = absurd (omega arith)
+  full_status (Err stops.DiskFault) e = absurd (omega arith)
+  full_status (Err (stops.BadJournal at)) e = absurd (omega arith)
+  full_status (Err (stops.BadEntry position)) e = absurd (omega arith)
+  full_status (Err (stops.IllegalEntry position)) e = absurd (omega arith)
+  full_status (Err stops.NoMemory) e = absurd (omega arith)
+  full_status (Err (stops.JournalFull size)) e = (size, refl)
+  full_status (Err stops.ScriptTooLong) e = absurd (omega arith)
+
+  -- what was taken is the whole script, where it was read whole
+  whole_script : (script : List ℕ) → left_old ≡ Some script → IsSome left_new → IfSome left_new (λ rest. rest ≡ []) → taken ≡ script
+  whole_script script is told whole =
+      let front = taken_front left_old left_new script taken is took told in
+      let none : front.0 ≡ [] = subst (λ (o : Option (List ℕ)). IfSome o (λ rest. rest ≡ [])) front.2 whole in
+      sym (front.1 ∙ ap (λ rest. taken ++ rest) none ∙ append-nil taken)
+
+  -- where the journal has room for the opening and the commands of all lines, none of them is too long
+  never_full : (size : ℕ) → IsWhole left_new (Err (stops.JournalFull size)) → BeginsAt entries first → (first ≡ 0 → IsFullFor content disk own_opening size) → (HasRoom entries first (script_lines taken) → ⊥)
+      → (script image : List ℕ) (found : List Entry) → left_old ≡ Some script → IsSome left_new → content disk ≡ Some image → ReadsAs image (Ok found)
+      → end_of (payloads_of found) + 5 + length (spelling own_opening) + room_of_lines (script_lines script) ≤ limit → ⊥
+  never_full size whole begins full fits script image found is told image_is good room =
+      by first begins found_is full fits
+    where
+      same : (other : List Entry) → ContentReadsAs content disk (Ok other) → other ≡ found
+      same other reads = cc (reads_once image (Ok other) (Ok found) (read_at content disk image (Ok other) image_is reads) good)
+
+      by : (n : ℕ) → BeginsAt entries n → FoundIs content disk entries n → (n ≡ 0 → IsFullFor content disk own_opening size) → (HasRoom entries n (script_lines taken) → ⊥) → ⊥
+      by zero b f opening_full behind =
+          let h = opening_full refl in
+          let e : end_of (payloads_of h.found) ≡ end_of (payloads_of found) = ap (λ l. end_of (payloads_of l)) (same h.found h.reads) in
+          let s = h.full.size_is in
+          let p = h.full.past in
+          omega (arith, e, s, p, room)
+      by (suc n) b f opening_full behind =
+          let front : take (suc n) entries ≡ found ++ own_opening ∷ [] = take_next entries n own_opening b.0 ∙ ap (λ l. l ++ own_opening ∷ []) (same (take n entries) f) in
+          let e : end_of (payloads_of (take (suc n) entries)) ≡ end_of (payloads_of found) + 5 + length (spelling own_opening) =
+          ap (λ l. end_of (payloads_of l)) front ∙ ap end_of (payloads-push found own_opening) ∙ end_of-push (payloads_of found) (spelling own_opening) in
+          let t : room_of_lines (script_lines taken) ≡ room_of_lines (script_lines script) = ap (λ l. room_of_lines (script_lines l)) (whole_script script is told whole) in
+          behind (omega (arith, e, t, room))
+
+  fits_all : (end : End) → IsWhole left_new end → BeginsAt entries first → IsFullOpening content disk first end → FitsWithRoom entries first (script_lines taken) end
+      → (script image : List ℕ) (found : List Entry) → left_old ≡ Some script → IsSome left_new → content disk ≡ Some image → ReadsAs image (Ok found)
+      → end_of (payloads_of found) + 5 + length (spelling own_opening) + room_of_lines (script_lines script) ≤ limit → end_status end ≢ 9
+  fits_all end whole begins full fits script image found is told image_is good room nine =
+      let h = full_status end nine in
+      never_full h.0 (subst (IsWhole left_new) h.1 whole) begins (λ zero. full zero h.0 h.1) (λ has. fits has h.0 h.1) script image found is told image_is good room
+
+  pub status_causes : (end : End) → Cause end → IsWhole left_new end → IsOpenedBy first end → BeginsAt entries first → IsFullOpening content disk first end → FitsWithRoom entries first (script_lines taken) end
+      → StatusCauses words content disk left_old left_new source sink disk_count (end_status end)
+  status_causes end h whole opened begins full fits = record {
     usage = usage_cause end h;
     read_fault = read_cause end h;
     write_fault = write_cause end h;
@@ -204,6 +275,7 @@ module _ {D : Type 0} (words : List (List ℕ)) (content : D → Option (List �
     journal_told = journal_told end h opened;
     length_told = length_told end h whole;
     complete = complete end h;
+    fits = fits_all end whole begins full fits;
   }
 
 opened_at : (first : ℕ) (end : End) → IsOpenedBy first end → (end_status end ≡ 0) ⊎ (end_status end ≡ 4) → 0 < first
@@ -219,9 +291,9 @@ opened_at first (Err stops.NoMemory) h e = absurd (⊎_elim (λ a. omega arith) 
 opened_at first (Err (stops.JournalFull size)) h e = absurd (⊎_elim (λ a. omega arith) (λ a. omega arith) e)
 opened_at first (Err stops.ScriptTooLong) h e = absurd (⊎_elim (λ a. omega arith) (λ a. omega arith) e)
 
-module _ {D : Type 0} (words : List (List ℕ)) (content : D → Option (List ℕ)) (disk : D) (left_old left_new held_old held_mid held_new : Option (List ℕ)) (source disk_count : Count)
+module _ {D : Type 0} (words : List (List ℕ)) (images : Images D) (content : D → Option (List ℕ)) (disk new : D) (left_old left_new held_old held_mid held_new : Option (List ℕ)) (source disk_count : Count)
     (before mid now status : ℕ) (trail : Trail) (end : End)
-    (left : LeavesCall words content disk left_old left_new held_old held_mid source (record { before = before; now = mid }) disk_count trail end)
+    (left : LeavesCall words images content disk new left_old left_new held_old held_mid source (record { before = before; now = mid }) disk_count trail end)
     (finished : Finishes held_mid held_new mid now end) (status_is : status ≡ end_status end) where
   pub printed_answers : PrintedAnswers words content disk left_old left_new held_old held_new source (record { before = before; now = now }) disk_count status trail
   printed_answers = record {
@@ -235,13 +307,29 @@ module _ {D : Type 0} (words : List (List ℕ)) (content : D → Option (List �
     opened = left.opened;
     printed = prints_all (entries_of trail.entries) left.first left.script held_old held_mid held_new before mid now end left.answered left.opened left.kept finished;
     cause = causes_all words left.script content disk source disk_count before mid now held_mid held_new end left.cause finished;
+    full = left.full;
+  }
+
+  pub crash_prefix : CrashPrefix images content disk new left_old left_new held_old held_new (record { before = before; now = now }) status trail
+  crash_prefix = record {
+    end = end;
+    status_is = status_is;
+    script = left.script;
+    taken = left.taken;
+    first = left.first;
+    rest = left.crash.rest;
+    given = left.crash.given;
+    begins = left.crash.begins;
+    legal = left.crash.legal;
+    printed = prints_all (entries_of trail.entries ++ option_to_list left.crash.rest) left.first left.script held_old held_mid held_new before mid now end left.crash.answered left.opened left.kept finished;
+    leaves = left.crash.leaves;
   }
 
   pub causes_of_status : StatusCauses words content disk left_old left_new source (record { before = before; now = now }) disk_count status
   causes_of_status =
       let P : ℕ → Type 0 = StatusCauses words content disk left_old left_new source (record { before = before; now = now }) disk_count in
       subst P (sym status_is) (status_causes words content disk left_old left_new source (record { before = before; now = now }) disk_count left.script (entries_of trail.entries) left.first left.taken left.found
-      end (causes_all words left.script content disk source disk_count before mid now held_mid held_new end left.cause finished) left.whole left.opened)
+      end (causes_all words left.script content disk source disk_count before mid now held_mid held_new end left.cause finished) left.whole left.opened left.begins left.full left.fits)
 
   pub serial_run : SerialRun content disk status trail
   serial_run = record {

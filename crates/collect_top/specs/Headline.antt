@@ -1,5 +1,5 @@
 -- The parts of the headline, each a record over what a run was given and what it left.
-use Rattle.std.specs.Prelude.{◌≡◌, ◌⊎◌, ℕ, zero, suc, ◌+◌, ◌≤◌, ◌<◌, List, [], ◌∷◌, ◌++◌, Bool, IsTrue, length, take, drop, codes, Option, Some, slice_get, IfSome, IsSome, Result, Ok, Err}
+use Rattle.std.specs.Prelude.{◌≡◌, ◌≢◌, ◌⊎◌, ℕ, zero, suc, ◌+◌, ◌≤◌, ◌<◌, List, [], ◌∷◌, ◌++◌, Bool, IsTrue, length, take, drop, codes, Option, Some, slice_get, IfSome, IsSome, Result, Ok, Err}
 use Rattle.std.specs.List.{AllByRecursion}
 use Rattle.field_io.specs.Causes.{Rose}
 use Rattle.entry_form.specs.declared.entry.Entry.{Entry}
@@ -7,7 +7,10 @@ use Rattle.entry_form.specs.declared.entry.Entry.TheVariants.{Opened}
 use Rattle.device_journal.specs.declared.fault.OpenFault.{OpenFault}
 use Rattle.device_journal.specs.declared.fault.OpenFault.TheVariants as opening
 use Rattle.device_core.specs.declared.trail.Trail.{Trail}
-use Rattle.device_core.specs.Faults.{ContentReadsAs, ReadsAs}
+use Rattle.device_journal.specs.Frames.{end_of, limit}
+use Rattle.entry_codec.specs.Spelling.{spelling}
+use Rattle.device_core.specs.Faults.{ContentReadsAs, IsFullFor}
+use Rattle.device_core.specs.Images.{ReadsAs, payloads_of}
 use Rattle.device_core.specs.State.{initial}
 use Rattle.device_core.specs.Step.{default_server}
 use Rattle.device_core.specs.Trail.{IsLegal, entries_of}
@@ -17,7 +20,7 @@ use Rattle.collect_top.specs.declared.stop.Stop.{Stop}
 use Rattle.collect_top.specs.declared.stop.Stop.TheVariants.{Usage, ReadFault, WriteFault, DiskFault, BadJournal, BadEntry, IllegalEntry, NoMemory, JournalFull, ScriptTooLong}
 use Rattle.collect_top.specs.Output.{Gained, IsCut}
 use Rattle.collect_top.specs.Script.{script_lines, most_bytes, Taken}
-use Rattle.collect_top.specs.Session.{KeepsSink}
+use Rattle.collect_top.specs.Session.{IsFullLine, room_of_lines}
 use Rattle.collect_top.specs.Stop.{status_of, fault_line}
 use Rattle.collect_top.specs.Transcript.{is_script, Transcript, AllAnswered, AnsweredUpTo}
 
@@ -54,6 +57,22 @@ pub record SerialRun {D : Type 0} (content : D → Option (List ℕ)) (disk : D)
   pub found : FoundIs content disk (entries_of trail.entries) first
   pub opened : status ≡ 0 ⊎ status ≡ 4 → 0 < first
 
+-- These lines have printed their answers, and of the one behind them the entry may stand.
+pub record AnswersSome (entries : List Entry) (first : ℕ) (lines : List Line) (old new : Option (List ℕ)) : Type 0 where
+  pub answered : List Line
+  pub left : List Line
+  pub text : List ℕ
+  pub last : ℕ
+  pub joined : lines ≡ answered ++ left
+  pub transcript : Transcript initial entries first answered text last
+  pub up_to : AnsweredUpTo initial entries last left
+  pub gained : Gained old new text
+
+-- the first of these lines is a command that doesn't fit behind the entries, in so many bytes
+abbrev pub IsFullAt : List Entry → List Line → ℕ → Type 0
+IsFullAt entries [] size = ⊥
+IsFullAt entries (line ∷ lines) size = IsFullLine entries line size
+
 -- What lines have printed before a run of them ended so.
 abbrev pub HasAnswered : List Entry → ℕ → List Line → Option (List ℕ) → Option (List ℕ) → End → Type 0
 HasAnswered entries first lines old new (Ok done) =
@@ -61,9 +80,9 @@ HasAnswered entries first lines old new (Ok done) =
 HasAnswered entries first lines old new (Err WriteFault) =
     (answered : List Line) × (left : List Line) × (text : List ℕ) × (cut : List ℕ) × (last : ℕ) × (lines ≡ answered ++ left)
     × Transcript initial entries first answered text last × AllAnswered initial entries last × IsCut cut text × Gained old new cut
-HasAnswered entries first lines old new (Err stop) =
-    (answered : List Line) × (left : List Line) × (text : List ℕ) × (last : ℕ) × (lines ≡ answered ++ left)
-    × Transcript initial entries first answered text last × AnsweredUpTo initial entries last left × Gained old new text
+HasAnswered entries first lines old new (Err (JournalFull size)) =
+    (some : AnswersSome entries first lines old new) × IsFullAt entries some.left size
+HasAnswered entries first lines old new (Err stop) = AnswersSome entries first lines old new
 
 -- the line of a stop was put, or a call of the sink failed in it
 abbrev pub PutsFault : Option (List ℕ) → Option (List ℕ) → ℕ → ℕ → Stop → Type 0
@@ -133,18 +152,18 @@ IsOpenedBy first (Err ReadFault) = first ≡ 0
 IsOpenedBy first (Err ScriptTooLong) = first ≡ 0
 IsOpenedBy first (Err stop) = Unit {0}
 
--- What a run over a disk has left, before the line of its stop is put: the trail with where this run's entries begin, and
--- what was printed.
-pub record LeavesRun {D : Type 0} (content : D → Option (List ℕ)) (disk : D) (script : List ℕ) (held_old held_new : Option (List ℕ)) (sink_count disk_count : Count) (trail : Trail) (end : End) : Type 0 where
-  pub start : trail.start ≡ initial
-  pub legal : IsLegal initial (entries_of trail.entries)
-  pub first : ℕ
-  pub begins : BeginsAt (entries_of trail.entries) first
-  pub found : FoundIs content disk (entries_of trail.entries) first
-  pub answered : HasAnsweredFrom (entries_of trail.entries) first (script_lines script) held_old held_new end
-  pub opened : IsOpenedBy first end
-  pub cause : IsRunCause (ContentReadsAs content disk) sink_count disk_count end
-  pub sink : KeepsSink sink_count.before sink_count.now end
+-- Where the device wasn't opened for want of room, the opening doesn't fit behind the entries that were read.
+abbrev pub IsFullOpening : {D : Type 0} → (D → Option (List ℕ)) → D → ℕ → End → Type 0
+IsFullOpening content disk first end = first ≡ 0 → (size : ℕ) → end ≡ Err (JournalFull size) → IsFullFor content disk own_opening size
+
+-- Behind the opening there is room for the commands of all the lines.
+abbrev pub HasRoom : List Entry → ℕ → List Line → Type 0
+HasRoom entries zero lines = ⊥
+HasRoom entries (suc found) lines = end_of (payloads_of (take (suc found) entries)) + room_of_lines lines ≤ limit
+
+-- with room no command is too long
+abbrev pub FitsWithRoom : List Entry → ℕ → List Line → End → Type 0
+FitsWithRoom entries first lines end = HasRoom entries first lines → (size : ℕ) → end ≡ Err (JournalFull size) → ⊥
 
 -- The bytes taken are the whole script, where nothing stopped the reading.
 abbrev pub IsWhole : Option (List ℕ) → End → Type 0
@@ -153,21 +172,6 @@ IsWhole left (Err ReadFault) = Unit {0}
 IsWhole left (Err ScriptTooLong) = Unit {0}
 IsWhole left (Err NoMemory) = Unit {0}
 IsWhole left end = IfSome left (λ rest. rest ≡ [])
-
--- What a whole call has left, before the line of its stop is put.
-pub record LeavesCall {D : Type 0} (words : List (List ℕ)) (content : D → Option (List ℕ)) (disk : D) (left_old left_new held_old held_new : Option (List ℕ)) (source sink disk_count : Count) (trail : Trail) (end : End) : Type 0 where
-  pub script : List ℕ
-  pub taken : Taken left_old left_new script
-  pub whole : IsWhole left_new end
-  pub start : trail.start ≡ initial
-  pub legal : IsLegal initial (entries_of trail.entries)
-  pub first : ℕ
-  pub begins : BeginsAt (entries_of trail.entries) first
-  pub found : FoundIs content disk (entries_of trail.entries) first
-  pub answered : HasAnsweredFrom (entries_of trail.entries) first (script_lines script) held_old held_new end
-  pub opened : IsOpenedBy first end
-  pub cause : IsCause words script (ContentReadsAs content disk) source sink disk_count end
-  pub kept : KeepsSink sink.before sink.now end
 
 -- Each printed answer is the run's at its printed place, and the status has its cause.
 pub record PrintedAnswers {D : Type 0} (words : List (List ℕ)) (content : D → Option (List ℕ)) (disk : D) (left_old left_new held_old held_new : Option (List ℕ)) (source sink disk_count : Count) (status : ℕ) (trail : Trail) : Type 0 where
@@ -181,6 +185,7 @@ pub record PrintedAnswers {D : Type 0} (words : List (List ℕ)) (content : D �
   pub opened : IsOpenedBy first end
   pub printed : HasPrinted (entries_of trail.entries) first (script_lines script) held_old held_new sink.before sink.now end
   pub cause : IsCause words script (ContentReadsAs content disk) source sink disk_count end
+  pub full : IsFullOpening content disk first end
 
 -- what the end of a call puts
 abbrev pub Finishes : Option (List ℕ) → Option (List ℕ) → ℕ → ℕ → End → Type 0
@@ -212,3 +217,8 @@ pub record StatusCauses {D : Type 0} (words : List (List ℕ)) (content : D → 
   pub complete : (script image : List ℕ) (found : List Entry) → IsRun words → IsCalm source → IsCalm sink → IsCalm disk_count
       → left_old ≡ Some script → IsSome left_new → length script ≤ most_bytes
       → content disk ≡ Some image → ReadsAs image (Ok found) → (status ≡ 0) ⊎ ((status ≡ 7) ⊎ (status ≡ 9))
+  -- an entry that doesn't fit comes only where the journal hasn't room for the opening and the commands of all lines
+  pub fits : (script image : List ℕ) (found : List Entry)
+      → left_old ≡ Some script → IsSome left_new
+      → content disk ≡ Some image → ReadsAs image (Ok found)
+      → end_of (payloads_of found) + 5 + length (spelling own_opening) + room_of_lines (script_lines script) ≤ limit → status ≢ 9

@@ -1,3 +1,4 @@
+pub mod Crash
 pub mod Headline
 pub mod Input
 pub mod Output

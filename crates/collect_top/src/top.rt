@@ -1,9 +1,10 @@
-ghost use Rattle.std.specs.Prelude.{◌≡◌, [], IfOk, IsTrue, None};
+ghost use Rattle.std.specs.Prelude.{◌≡◌, [], IfOk, IsTrue};
 ghost use Rattle.device_core.specs.State.{initial};
 ghost use Rattle.device_core.specs.Step.{is_opening};
-ghost use Rattle.device_core.specs.Trail.{Replays};
-ghost use Rattle.collect_top.specs.Headline.{LeavesRun, LeavesCall, Finishes, SerialRun, PrintedAnswers, StatusCauses, is_run, end_status, own_opening};
-ghost use Rattle.collect_top.specs.Run.{LeavesLines};
+ghost use Rattle.device_core.specs.Trail.{IsReady};
+ghost use Rattle.collect_top.specs.Crash.{CrashPrefix};
+ghost use Rattle.collect_top.specs.Headline.{Finishes, SerialRun, PrintedAnswers, StatusCauses, is_run, end_status, own_opening};
+ghost use Rattle.collect_top.specs.Run.{LeavesLines, LeavesRun, LeavesCall};
 
 use crate::{Stop, answer_lines, put_fault, read_script};
 use device_core::{Device, State, Trail};
@@ -74,8 +75,8 @@ fn run_lines<D: Disk, Si: Sink>(
     sink: &mut Si,
     device: Device<D>,
 ) -> Ran<D>
-    requires { device.failed ≡ None }
-    ensures { LeavesLines D.faults device script.now (Si.held sink.old) (Si.held sink.new) (Si.faults sink.old) (Si.faults sink.new)
+    requires { IsReady device }
+    ensures { LeavesLines (record { clock = D.clock; may = D.may; since = D.since }) D.faults device script.now (Si.held sink.old) (Si.held sink.new) (Si.faults sink.old) (Si.faults sink.new)
         result.disk result.trail result.end }
 {
     let mut device = device;
@@ -86,7 +87,7 @@ fn run_lines<D: Disk, Si: Sink>(
 
 // Opens the device, and answers the lines of a script.
 fn run_script<D: Disk, Si: Sink>(alloc: Global, script: &[u8], sink: &mut Si, disk: D) -> Ran<D>
-    ensures { LeavesRun D.content disk script.now (Si.held sink.old) (Si.held sink.new)
+    ensures { LeavesRun (record { clock = D.clock; may = D.may; since = D.since }) D.content disk result.disk script.now (Si.held sink.old) (Si.held sink.new)
         (record { before = Si.faults sink.old; now = Si.faults sink.new })
         (record { before = D.faults disk; now = D.faults result.disk }) result.trail result.end }
 {
@@ -127,7 +128,7 @@ fn run<So: Source, Si: Sink, D: Disk>(
     sink: &mut Si,
     disk: D,
 ) -> Ran<D>
-    ensures { LeavesCall words.now D.content disk (So.left source.old) (So.left source.new) (Si.held sink.old) (Si.held sink.new)
+    ensures { LeavesCall words.now (record { clock = D.clock; may = D.may; since = D.since }) D.content disk result.disk (So.left source.old) (So.left source.new) (Si.held sink.old) (Si.held sink.new)
         (record { before = So.faults source.old; now = So.faults source.new })
         (record { before = Si.faults sink.old; now = Si.faults sink.new })
         (record { before = D.faults disk; now = D.faults result.disk }) result.trail result.end }
@@ -180,6 +181,9 @@ pub fn collect_alone<So: Source, Si: Sink, D: Disk, N: Dialer, C: Clock>(
         (record { before = Si.faults sink.old; now = Si.faults sink.new })
         (record { before = D.faults disk; now = D.faults result.disk }) result.status result.trail }
     ensures transmissions { result.hands ≡ hands }
+    ensures crash { CrashPrefix (record { clock = D.clock; may = D.may; since = D.since }) D.content disk result.disk
+        (So.left source.old) (So.left source.new) (Si.held sink.old) (Si.held sink.new)
+        (record { before = Si.faults sink.old; now = Si.faults sink.new }) result.status result.trail }
     ensures status { StatusCauses words.now D.content disk (So.left source.old) (So.left source.new)
         (record { before = So.faults source.old; now = So.faults source.new })
         (record { before = Si.faults sink.old; now = Si.faults sink.new })

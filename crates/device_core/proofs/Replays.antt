@@ -8,10 +8,9 @@ use Rattle.device_core.specs.declared.refused.Refused.{Refused}
 use Rattle.device_core.specs.declared.state.State.{State}
 use Rattle.device_core.specs.declared.trail.Marked.{Marked}
 use Rattle.device_core.specs.Images.{IsRefusedFrom}
-use Rattle.device_core.specs.Replay.{marked_at}
 use Rattle.device_core.specs.State.{initial}
 use Rattle.device_core.specs.Step.{step}
-use Rattle.device_core.specs.Trail.{entries_of, replay, state_after}
+use Rattle.device_core.specs.Trail.{entries_of, marked_at, replay, state_after}
 
 pub replay-append : (start : State) (entries more : List Entry) → replay start (entries ++ more) ≡ option_and_then (λ next. replay next more) (replay start entries)
 replay-append start [] more = refl

@@ -152,6 +152,7 @@ pub fn open_journal<D: Disk>(
 
     // Until the first sync a crash leaves what it might have left before; from then on what stands for the payloads.
     ensures any_moment { IfOk result (λ r. LeavesFrom D.clock D.since disk (journal_disk r.0) (journal_opened r.0) (λ c. HasFrames c r.1)) }
+    ensures as_read { IfOk result (λ r. LeavesFrom D.clock D.since disk (journal_disk r.0) (journal_opened r.0) (IsAsRead (D.content disk))) }
     ensures any_moment_err { IfErr result (λ e. LeavesAsRead D.clock D.may D.since (D.content disk) disk e.0) }
 
     ensures off { IfErr result (λ e. (at : ℕ) → e.1 ≡ BadJournal at → (image : List ℕ) → D.content disk ≡ Some image → IsOffAt image at) }
