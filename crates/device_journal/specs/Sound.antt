@@ -28,6 +28,10 @@ IsBeforeOrAfter payloads payload image = HasFrames image payloads ⊎ HasFrames 
 abbrev pub framed : ℕ → List ℕ → List ℕ → List ℕ
 framed gate body image = written gate (open_gate ∷ []) (written (gate + 1) body image)
 
+-- an image of a disk while this many bytes are written at a place
+abbrev pub IsTorn : Option (List ℕ) → ℕ → ℕ → List ℕ → Type 0
+IsTorn content at n c = (image : List ℕ) × (content ≡ Some image) × Torn at n image c
+
 -- an image of a disk while bytes are written behind a gate and the gate is opened
 abbrev pub IsBetween : Option (List ℕ) → ℕ → List ℕ → List ℕ → Type 0
 IsBetween content gate body c =

@@ -1,10 +1,10 @@
 // The frames of a journal's image.
 ghost use Rattle.std.specs.Prelude.{◌≡◌, ◌+◌, ◌≤◌, ◌<◌, ◌^◌, ◌++◌, ◌∷◌, [], List, ℕ, Some, length, take, OnOk, option_map};
 ghost use Rattle.field_io.specs.Causes.{HasCause};
-ghost use Rattle.disk_model.specs.Disk.{Only};
+ghost use Rattle.disk_model.specs.Disk.{Only, written};
 ghost use Rattle.device_journal.specs.Frames.{Stands, limit};
 ghost use Rattle.device_journal.specs.Moments.{LeavesOnly};
-ghost use Rattle.device_journal.specs.Sound.{IsBetween, IsBeforeOrAfter, HasEnd, body_of, framed};
+ghost use Rattle.device_journal.specs.Sound.{IsTorn, IsBetween, IsBeforeOrAfter, HasEnd, body_of, framed};
 
 use disk_model::Disk;
 use field_io::Failed;
@@ -16,7 +16,20 @@ pub const LIMIT: u64 = 134_217_728;
 // A payload of at most 524,283 bytes, its length and the gate behind it.
 pub const FRAME_SPACE: usize = 524_288;
 
-// The four disk calls of an append: what stands behind the gate, a sync, the gate itself, a sync.
+// Writes these bytes at a place, and syncs.
+fn write_synced<D: Disk>(disk: &mut D, at: u64, bytes: &[u8]) -> Result<(), Failed>
+    requires only { Only (D.content disk.old) (D.may disk.old) }
+    requires within { (image : List ℕ) → D.content disk.old ≡ Some image → at ≤ length image }
+    ensures any_moment { LeavesOnly D.clock D.since disk.old disk.new (IsTorn (D.content disk.old) at (length bytes.now)) }
+    ensures written { OnOk result (D.content disk.new ≡ option_map (written at bytes.now) (D.content disk.old)) }
+    ensures only_new { OnOk result (Only (D.content disk.new) (D.may disk.new)) }
+    ensures cause { HasCause (D.faults disk.old) (D.faults disk.new) result }
+{
+    disk.write_at(at, bytes)?;
+    disk.sync()
+}
+
+// Writes what stands behind the gate, and only when that is durable the gate itself.
 pub fn write_frame<D: Disk>(disk: &mut D, gate: u64, body: &[u8]) -> Result<(), Failed>
     requires only { Only (D.content disk.old) (D.may disk.old) }
     requires within { (image : List ℕ) → D.content disk.old ≡ Some image → gate < length image }
@@ -26,11 +39,8 @@ pub fn write_frame<D: Disk>(disk: &mut D, gate: u64, body: &[u8]) -> Result<(), 
     ensures only_new { OnOk result (Only (D.content disk.new) (D.may disk.new)) }
     ensures cause { HasCause (D.faults disk.old) (D.faults disk.new) result }
 {
-    disk.write_at(gate + 1, body)?;
-    disk.sync()?;
-    disk.write_at(gate, &[OPEN_GATE])?;
-    disk.sync()?;
-    Ok(())
+    write_synced(disk, gate + 1, body)?;
+    write_synced(disk, gate, &[OPEN_GATE])
 }
 
 // What stands behind the gate of a frame: the length, the payload, and the next gate, shut.
