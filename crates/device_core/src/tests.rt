@@ -33,13 +33,24 @@ fn steps_are_prepared_and_made(rt: HostRuntime) -> Result<(), Fail> {
     let Ok(prepared) = decide(&state, Hand::Sender, Command::AutoSend(true)) else {
         return Err("refused".into());
     };
-    assert!(rt; matches!(prepared.entry(), Entry::Done { hand: Hand::Sender, command: Command::AutoSend(true) }));
+    assert!(rt;
+        matches!(
+            prepared.entry(),
+            Entry::Done {
+                hand: Hand::Sender,
+                command: Command::AutoSend(true)
+            }
+        )
+    );
     let (_entry, answer) = apply(&mut state, prepared);
     assert_eq!(rt; answer, Answer::Done);
     assert_eq!(rt; state.position, 1);
     assert_eq!(rt;
         state.answer(Query::Settings),
-        Answer::Settings(Settings { mode: Mode::Manual, auto_send: true })
+        Answer::Settings(Settings {
+            mode: Mode::Manual,
+            auto_send: true
+        })
     );
     an_image_reads_as_one_thing();
     Ok(())
@@ -62,9 +73,21 @@ fn commands_last(rt: HostRuntime) -> Result<(), Fail> {
     let mut device = opened(alloc, disk_of(alloc, b"")?)?;
     let on = device.submit(alloc, Hand::Script, Command::AutoSend(true));
     let done = Answer::Done;
-    assert_eq!(rt; on, Ok(Told { position: 2, answer: done }));
+    assert_eq!(rt;
+        on,
+        Ok(Told {
+            position: 2,
+            answer: done
+        })
+    );
     let exact = device.submit(alloc, Hand::Script, Command::UpdateMode(Mode::Exact));
-    assert_eq!(rt; exact, Ok(Told { position: 3, answer: done }));
+    assert_eq!(rt;
+        exact,
+        Ok(Told {
+            position: 3,
+            answer: done
+        })
+    );
     let tick = device.submit(alloc, Hand::Script, Command::Tick);
     let why = Refused::NotBuilt;
     assert_eq!(rt; tick, Err(SubmitFault::Refused { position: 3, why }));
@@ -72,7 +95,10 @@ fn commands_last(rt: HostRuntime) -> Result<(), Fail> {
         mode: Mode::Exact,
         auto_send: true,
     };
-    assert_eq!(rt; device.ask(Query::Settings).answer, Answer::Settings(settings));
+    assert_eq!(rt;
+        device.ask(Query::Settings).answer,
+        Answer::Settings(settings)
+    );
     assert_eq!(rt; device.position(), 3);
     let (disk, trail) = device.into_parts(alloc);
     assert_eq!(rt; disk.bytes(), IMAGE);
@@ -149,36 +175,34 @@ fn stop_at(alloc: Global, k: u64) -> Result<(u64, MemDisk), Fail> {
     Ok((last, disk.into_disk()))
 }
 
-// Five calls make the journal, and each entry takes four: the last position told, and how many entries are found, where the
-// disk stops at call 1, 2 and so on.
-static STOPS: [(u64, u64); 18] = [
-    (0, 0),
-    (0, 0),
-    (0, 0),
-    (0, 0),
-    (0, 0),
-    (0, 0),
-    (0, 0),
-    (0, 0),
-    (0, 1),
-    (1, 1),
-    (1, 1),
-    (1, 1),
-    (1, 2),
-    (2, 2),
-    (2, 2),
-    (2, 2),
-    (2, 3),
-    (3, 3),
+// The call at which the disk stops, the last position told, and how many entries are found. Five calls make the journal, and
+// each entry takes four.
+static STOPS: [(u64, u64, u64); 18] = [
+    (1, 0, 0),
+    (2, 0, 0),
+    (3, 0, 0),
+    (4, 0, 0),
+    (5, 0, 0),
+    (6, 0, 0),
+    (7, 0, 0),
+    (8, 0, 0),
+    (9, 0, 1),
+    (10, 1, 1),
+    (11, 1, 1),
+    (12, 1, 1),
+    (13, 1, 2),
+    (14, 2, 2),
+    (15, 2, 2),
+    (16, 2, 2),
+    (17, 2, 3),
+    (18, 3, 3),
 ];
 
 #[test]
 fn what_was_told_is_found_after_every_stop(rt: HostRuntime) -> Result<(), Fail> {
     let alloc = rt.alloc();
-    let mut k = 0;
-    for (told, want) in &STOPS {
-        k += 1;
-        let (last, disk) = stop_at(alloc, k)?;
+    for (k, told, want) in &STOPS {
+        let (last, disk) = stop_at(alloc, *k)?;
         assert_eq!(rt; last, *told);
         assert_eq!(rt; found_in(alloc, disk)?, Ok(*want));
     }
