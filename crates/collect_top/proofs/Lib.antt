@@ -1,6 +1,7 @@
 pub mod Causes
 pub mod Gains
 pub mod Lines
+pub mod Logs
 pub mod Runs
 pub mod Steps
 pub mod Transcripts

@@ -1,5 +1,5 @@
 -- What a crash at any moment of a call leaves on the disk.
-use Rattle.std.specs.Prelude.{◌≡◌, ◌⊎◌, ℕ, zero, suc, List, ◌++◌, Option, None, option_to_list, Err}
+use Rattle.std.specs.Prelude.{◌≡◌, ◌⊎◌, ℕ, zero, suc, List, ◌++◌, Bool, Option, None, option_to_list, Err}
 use Rattle.entry_form.specs.declared.entry.Entry.{Entry}
 use Rattle.device_journal.specs.Moments.{LeavesFrom}
 use Rattle.device_core.specs.declared.trail.Marked.{Marked}
@@ -8,7 +8,7 @@ use Rattle.device_core.specs.Crash.{Crash, HasAtLeast, LeavesUnopened}
 use Rattle.device_core.specs.State.{initial}
 use Rattle.device_core.specs.Trail.{IsLegal, entries_of}
 use Rattle.collect_top.specs.declared.stop.Stop.TheVariants.{DiskFault}
-use Rattle.collect_top.specs.Headline.{End, Count, BeginsAt, HasAnsweredFrom, HasPrinted, end_status, own_opening}
+use Rattle.collect_top.specs.Headline.{End, Count, BeginsAt, HasPrinted, HasTold, end_status, is_log, own_opening}
 use Rattle.collect_top.specs.Script.{script_lines, Taken}
 
 -- what a disk tells of crashes: its moment, the images that a crash leaves now, and those since a moment
@@ -33,16 +33,16 @@ module _ {D : Type 0} (images : Images D) where
 
   -- There may be one entry behind the trail, whose append met the fault of the disk that ended the run. It is the command
   -- that was being given: the rules allow it behind the trail, and what was printed is the run's with it, too.
-  pub record LeavesRest (content : D → Option (List ℕ)) (old new : D) (script : List ℕ) (held_old held_new : Option (List ℕ)) (trail : Trail) (first : ℕ) (end : End) : Type 0 where
+  pub record LeavesRest (log : Bool) (content : D → Option (List ℕ)) (old new : D) (script : List ℕ) (held_old held_new : Option (List ℕ)) (trail : Trail) (first : ℕ) (end : End) : Type 0 where
     pub rest : Option Entry
     pub given : rest ≡ None ⊎ end ≡ Err DiskFault
     pub begins : BeginsAt (entries_of trail.entries ++ option_to_list rest) first
     pub legal : IsLegal initial (entries_of trail.entries ++ option_to_list rest)
-    pub answered : HasAnsweredFrom (entries_of trail.entries ++ option_to_list rest) first (script_lines script) held_old held_new end
+    pub told : HasTold log (entries_of trail.entries ++ option_to_list rest) first (script_lines script) held_old held_new end
     pub leaves : LeavesImages content old new first trail.entries (option_to_list rest)
 
   -- A crash at any moment leaves a front of the run that holds all that was acknowledged.
-  pub record CrashPrefix (content : D → Option (List ℕ)) (old new : D) (left_old left_new held_old held_new : Option (List ℕ)) (sink : Count) (status : ℕ) (trail : Trail) : Type 0 where
+  pub record CrashPrefix (words : List (List ℕ)) (content : D → Option (List ℕ)) (old new : D) (left_old left_new held_old held_new : Option (List ℕ)) (sink : Count) (status : ℕ) (trail : Trail) : Type 0 where
     pub end : End
     pub status_is : status ≡ end_status end
     pub script : List ℕ
@@ -52,5 +52,5 @@ module _ {D : Type 0} (images : Images D) where
     pub given : rest ≡ None ⊎ end ≡ Err DiskFault
     pub begins : BeginsAt (entries_of trail.entries ++ option_to_list rest) first
     pub legal : IsLegal initial (entries_of trail.entries ++ option_to_list rest)
-    pub printed : HasPrinted (entries_of trail.entries ++ option_to_list rest) first (script_lines script) held_old held_new sink.before sink.now end
+    pub printed : HasPrinted (is_log words) (entries_of trail.entries ++ option_to_list rest) first (script_lines script) held_old held_new sink.before sink.now end
     pub leaves : LeavesImages content old new first trail.entries (option_to_list rest)

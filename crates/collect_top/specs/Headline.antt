@@ -1,5 +1,5 @@
 -- The parts of the headline, each a record over what a run was given and what it left.
-use Rattle.std.specs.Prelude.{◌≡◌, ◌≢◌, ◌⊎◌, ℕ, zero, suc, ◌+◌, ◌≤◌, ◌<◌, List, [], ◌∷◌, ◌++◌, Bool, IsTrue, length, take, drop, codes, Option, Some, slice_get, IfSome, IsSome, Result, Ok, Err}
+use Rattle.std.specs.Prelude.{◌≡◌, ◌≢◌, ◌⊎◌, ℕ, zero, suc, ◌+◌, ◌≤◌, ◌<◌, List, [], ◌∷◌, ◌++◌, Bool, true, false, IsTrue, length, take, drop, codes, Option, Some, slice_get, IfSome, IsSome, Result, Ok, Err}
 use Rattle.std.specs.List.{AllByRecursion}
 use Rattle.field_io.specs.Causes.{Rose}
 use Rattle.entry_form.specs.declared.entry.Entry.{Entry}
@@ -18,6 +18,7 @@ use Rattle.collect_text.specs.Line.{same_words}
 use Rattle.collect_text.specs.declared.line.Line.{Line}
 use Rattle.collect_top.specs.declared.stop.Stop.{Stop}
 use Rattle.collect_top.specs.declared.stop.Stop.TheVariants.{Usage, ReadFault, WriteFault, DiskFault, BadJournal, BadEntry, IllegalEntry, NoMemory, JournalFull, ScriptTooLong}
+use Rattle.collect_top.specs.Log.{log_text}
 use Rattle.collect_top.specs.Output.{Gained, IsCut}
 use Rattle.collect_top.specs.Script.{script_lines, most_bytes, Taken}
 use Rattle.collect_top.specs.Session.{IsFullLine, room_of_lines}
@@ -94,20 +95,47 @@ abbrev pub HasAnsweredFrom : List Entry → ℕ → List Line → Option (List �
 HasAnsweredFrom entries zero lines old new end = new ≡ old
 HasAnsweredFrom entries (suc found) lines old new end = HasAnswered entries (suc found) lines old new end
 
--- What a whole call has printed: the answers, and behind them the line of the stop, which has none where the sink failed.
--- Where the device wasn't opened that line is all.
-abbrev pub HasPrinted : List Entry → ℕ → List Line → Option (List ℕ) → Option (List ℕ) → ℕ → ℕ → End → Type 0
-HasPrinted entries first lines old new before now (Ok done) = (0 < first) × HasAnsweredFrom entries first lines old new (Ok done)
-HasPrinted entries first lines old new before now (Err WriteFault) = (0 < first) × HasAnsweredFrom entries first lines old new (Err WriteFault)
-HasPrinted entries first lines old new before now (Err stop) =
-    (between : Option (List ℕ)) × HasAnsweredFrom entries first lines old between (Err stop) × PutsFault between new before now stop
+-- What a log of these entries has printed before it ended so.
+abbrev pub HasLogged : List Entry → Option (List ℕ) → Option (List ℕ) → End → Type 0
+HasLogged entries old new (Ok done) = Gained old new (log_text entries)
+HasLogged entries old new (Err WriteFault) = (cut : List ℕ) × IsCut cut (log_text entries) × Gained old new cut
+HasLogged entries old new (Err stop) = (count : ℕ) × Gained old new (log_text (take count entries))
 
--- the words are those of the one command
+-- The log has no entry behind the opening, and prints them all; where the device wasn't opened, nothing was put.
+abbrev pub HasLoggedFrom : List Entry → ℕ → Option (List ℕ) → Option (List ℕ) → End → Type 0
+HasLoggedFrom entries zero old new end = new ≡ old
+HasLoggedFrom entries (suc found) old new end = (length entries ≡ suc found) × HasLogged entries old new end
+
+-- what a call has printed before the line of its stop: the log, or the answers to lines
+abbrev pub HasTold : Bool → List Entry → ℕ → List Line → Option (List ℕ) → Option (List ℕ) → End → Type 0
+HasTold true entries first lines old new end = HasLoggedFrom entries first old new end
+HasTold false entries first lines old new end = HasAnsweredFrom entries first lines old new end
+
+-- What a whole call has printed: the log or the answers, and behind them the line of the stop, which has none where the sink
+-- failed. Where the device wasn't opened that line is all.
+abbrev pub HasPrinted : Bool → List Entry → ℕ → List Line → Option (List ℕ) → Option (List ℕ) → ℕ → ℕ → End → Type 0
+HasPrinted log entries first lines old new before now (Ok done) = (0 < first) × HasTold log entries first lines old new (Ok done)
+HasPrinted log entries first lines old new before now (Err WriteFault) = (0 < first) × HasTold log entries first lines old new (Err WriteFault)
+HasPrinted log entries first lines old new before now (Err stop) =
+    (between : Option (List ℕ)) × HasTold log entries first lines old between (Err stop) × PutsFault between new before now stop
+
+-- the words are those of the command that runs a script
 abbrev pub is_run : List (List ℕ) → Bool
 is_run words = same_words words (codes "run" ∷ [])
 
 abbrev pub IsRun : List (List ℕ) → Type 0
 IsRun words = IsTrue (is_run words)
+
+-- the words are those of the command that prints the log
+abbrev pub is_log : List (List ℕ) → Bool
+is_log words = same_words words (codes "log" ∷ [])
+
+abbrev pub IsLog : List (List ℕ) → Type 0
+IsLog words = IsTrue (is_log words)
+
+-- the words are those of a command
+abbrev pub IsKnown : List (List ℕ) → Type 0
+IsKnown words = IsRun words ⊎ IsLog words
 
 -- how the disk's image was read, if the disk told it
 abbrev pub Reading : Type 1
@@ -137,11 +165,11 @@ IsRunCause reads sink disk (Err ScriptTooLong) = ⊥
 
 -- Why a whole call ended so, by the counts of the source, the sink and the disk. The script is what was taken.
 abbrev pub IsCause : List (List ℕ) → List ℕ → Reading → Count → Count → Count → End → Type 0
-IsCause words script reads source sink disk (Err Usage) = ¬ (IsRun words)
+IsCause words script reads source sink disk (Err Usage) = ¬ (IsKnown words)
 IsCause words script reads source sink disk (Err ReadFault) = IsRun words × Rises source
 IsCause words script reads source sink disk (Err ScriptTooLong) = IsRun words × (length script ≡ most_bytes + 1)
-IsCause words script reads source sink disk (Err NoMemory) = IsRun words
-IsCause words script reads source sink disk end = IsRun words × (length script ≤ most_bytes) × IsRunCause reads sink disk end
+IsCause words script reads source sink disk (Err NoMemory) = IsKnown words
+IsCause words script reads source sink disk end = IsKnown words × (length script ≤ most_bytes) × IsRunCause reads sink disk end
 
 -- where the device was opened, and where it wasn't
 abbrev pub IsOpenedBy : ℕ → End → Type 0
@@ -179,11 +207,13 @@ pub record PrintedAnswers {D : Type 0} (words : List (List ℕ)) (content : D �
   pub status_is : status ≡ end_status end
   pub script : List ℕ
   pub taken : Taken left_old left_new script
-  pub whole : IsWhole left_new end
+  pub whole : IsRun words → IsWhole left_new end
+  -- the log reads no script
+  pub unread : IsLog words → script ≡ []
   pub first : ℕ
   pub begins : BeginsAt (entries_of trail.entries) first
   pub opened : IsOpenedBy first end
-  pub printed : HasPrinted (entries_of trail.entries) first (script_lines script) held_old held_new sink.before sink.now end
+  pub printed : HasPrinted (is_log words) (entries_of trail.entries) first (script_lines script) held_old held_new sink.before sink.now end
   pub cause : IsCause words script (ContentReadsAs content disk) source sink disk_count end
   pub full : IsFullOpening content disk first end
 
@@ -197,28 +227,30 @@ Finishes old new before now (Err stop) = PutsFault old new before now stop
 abbrev pub IsCalm : Count → Type 0
 IsCalm count = ¬ (Rises count)
 
+-- The words are known, and a script that they ask for is told, can be read and is within its limit.
+abbrev pub HasScript : List (List ℕ) → Count → Option (List ℕ) → Option (List ℕ) → List ℕ → Type 0
+HasScript words source left_old left_new script =
+    IsLog words ⊎ (IsRun words × IsCalm source × (left_old ≡ Some script) × IsSome left_new × (length script ≤ most_bytes))
+
 -- The causes of each status, in what was handed in. What a source or a disk had is known where it tells it.
 pub record StatusCauses {D : Type 0} (words : List (List ℕ)) (content : D → Option (List ℕ)) (disk : D) (left_old left_new : Option (List ℕ)) (source sink disk_count : Count) (status : ℕ) : Type 0 where
-  pub usage : (status ≡ 2 → ¬ (IsRun words)) × (¬ (IsRun words) → status ≡ 2)
+  pub usage : (status ≡ 2 → ¬ (IsKnown words)) × (¬ (IsKnown words) → status ≡ 2)
   pub read_fault : status ≡ 3 → Rises source
   pub write_fault : status ≡ 4 → Rises sink
   pub disk_fault : status ≡ 5 → Rises disk_count
   pub bad_journal : status ≡ 6 → (fault : OpenFault) × ContentReadsAs content disk (Err fault)
   pub too_long : (script : List ℕ) → left_old ≡ Some script → IsSome left_new → status ≡ 10 → most_bytes < length script
   -- a journal that doesn't stand for entries is told
-  pub journal_told : (script image : List ℕ) (fault : OpenFault) → IsRun words → IsCalm source → IsCalm disk_count
-      → left_old ≡ Some script → IsSome left_new → length script ≤ most_bytes
+  pub journal_told : (script image : List ℕ) (fault : OpenFault) → HasScript words source left_old left_new script → IsCalm disk_count
       → content disk ≡ Some image → ReadsAs image (Err fault) → (status ≡ 6) ⊎ (status ≡ 7)
   -- a script that is too long is told
   pub length_told : (script : List ℕ) → IsRun words → IsCalm source → left_old ≡ Some script → IsSome left_new → most_bytes < length script
       → (status ≡ 10) ⊎ (status ≡ 7)
-  -- where no call fails, the script is within its limit and the image stands for entries, the run comes to its end, but
+  -- where no call fails, the script is within its limit and the image stands for entries, the call comes to its end, but
   -- for want of memory and for an entry that doesn't fit the journal
-  pub complete : (script image : List ℕ) (found : List Entry) → IsRun words → IsCalm source → IsCalm sink → IsCalm disk_count
-      → left_old ≡ Some script → IsSome left_new → length script ≤ most_bytes
+  pub complete : (script image : List ℕ) (found : List Entry) → HasScript words source left_old left_new script → IsCalm sink → IsCalm disk_count
       → content disk ≡ Some image → ReadsAs image (Ok found) → (status ≡ 0) ⊎ ((status ≡ 7) ⊎ (status ≡ 9))
   -- an entry that doesn't fit comes only where the journal hasn't room for the opening and the commands of all lines
-  pub fits : (script image : List ℕ) (found : List Entry)
-      → left_old ≡ Some script → IsSome left_new
+  pub fits : (script image : List ℕ) (found : List Entry) → HasScript words source left_old left_new script
       → content disk ≡ Some image → ReadsAs image (Ok found)
       → end_of (payloads_of found) + 5 + length (spelling own_opening) + room_of_lines (script_lines script) ≤ limit → status ≢ 9
