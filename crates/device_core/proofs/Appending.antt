@@ -1,23 +1,21 @@
 -- What an append leaves of a device.
-use Rattle.std.proofs.Common.{◌≡◌, ◌≢◌, ◌⊎◌, inl, inr, ⊎_elim, ℕ, ◌+◌, ◌<◌, ◌≤◌, List, [], ◌∷◌, ◌++◌, length, map, Option, Some, None, Result, Ok, Err, refl, sym, ◌∙◌, ap, subst, arith, length-append, append_assoc}
+use Rattle.std.proofs.Common.{◌≡◌, ⊎_elim, ℕ, ◌+◌, ◌<◌, ◌≤◌, List, [], ◌∷◌, ◌++◌, length, map, Option, Some, None, Result, Ok, Err, refl, sym, ◌∙◌, ap, subst, arith}
 use Rattle.std.specs.Prelude.{option_map, option_to_list}
-use Rattle.std.specs.Option.{option_and_then}
 use Rattle.std.specs.Result.{result_ok}
-use Rattle.std.specs.Int.{w32, to_le_bytes}
 use Rattle.std.specs.List.{AllByRecursion}
 use Rattle.std.proofs.lemmas.Bool.{cases_lt}
 use Rattle.entry_form.specs.declared.entry.Entry.{Entry}
 use Rattle.entry_codec.specs.Spelling.{Fits, spelling}
 use Rattle.device_journal.specs.declared.fault.AppendFault.{AppendFault}
 use Rattle.device_journal.specs.declared.fault.AppendFault.TheVariants as journal
-use Rattle.device_journal.specs.Frames.{frame, chain, end_of, limit, HasFrames, Stands}
+use Rattle.device_journal.specs.Frames.{end_of, limit, HasFrames, Stands}
 use Rattle.device_journal.specs.Moments.{LeavesOnly, LeavesFrom}
 use Rattle.device_journal.specs.Sound.{IsBeforeOrAfter}
 use Rattle.device_core.specs.declared.answer.Answer.{Answer}
 use Rattle.device_core.specs.declared.state.State.{State}
 use Rattle.device_core.specs.declared.trail.Marked.{Marked}
-use Rattle.device_core.specs.Crash.{AddsOnly, Crash, HasAtLeast, HasCrash}
-use Rattle.device_core.specs.Device.{IsKept, IsLoaded, IsSound}
+use Rattle.device_core.specs.Crash.{AddsOnly, Crash, HasAtLeast}
+use Rattle.device_core.specs.Device.{IsKept, IsLoaded}
 use Rattle.device_core.specs.Images.{payloads_of}
 use Rattle.device_core.specs.Replay.{IsSpelledBy}
 use Rattle.device_core.specs.State.{initial}

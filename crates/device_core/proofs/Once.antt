@@ -1,12 +1,12 @@
 -- An image reads as one thing.
-use Rattle.std.proofs.Common.{◌≡◌, ◌≢◌, ◌⊎◌, inl, inr, ⊎_elim, ℕ, zero, suc, ◌+◌, ◌<◌, ◌≤◌, List, [], ◌∷◌, ◌++◌, length, map, Option, Some, None, Result, Ok, Err, refl, sym, ◌∙◌, ap, subst, arith}
+use Rattle.std.proofs.Common.{◌≡◌, ℕ, List, [], ◌∷◌, ◌++◌, length, Option, Some, None, Result, Ok, Err, refl, sym, ◌∙◌, ap, subst, arith}
 use Rattle.std.specs.List.{AllByRecursion}
 use Rattle.std.specs.Option.{option_and_then}
 use Rattle.std.proofs.lemmas.List.{append-nil}
 use Rattle.entry_form.specs.declared.entry.Entry.{Entry}
 use Rattle.entry_codec.specs.Spelling.{Fits, spelling}
 use Rattle.entry_codec.proofs.Found.{begins_none}
-use Rattle.device_journal.specs.Frames.{HasFrames, IsOffAt}
+use Rattle.device_journal.specs.Frames.{HasFrames}
 use Rattle.device_journal.proofs.Unique.{unique, not_both, off_once}
 use Rattle.device_journal.specs.declared.fault.OpenFault.{OpenFault}
 use Rattle.device_journal.specs.declared.fault.OpenFault.TheVariants as opening
@@ -14,10 +14,10 @@ use Rattle.std.specs.Prelude.{option_map}
 use Rattle.std.specs.Result.{result_ok}
 use Rattle.device_core.specs.declared.refused.Refused.{Refused}
 use Rattle.device_core.specs.declared.state.State.{State}
-use Rattle.device_core.specs.Images.{StandsFor, IsOffFrom, IsRefusedFrom, IsOffSpelling, payloads_of, ReadsAs}
+use Rattle.device_core.specs.Images.{StandsFor, IsOffFrom, IsOffSpelling, payloads_of, ReadsAs}
 use Rattle.device_core.specs.State.{initial}
 use Rattle.device_core.specs.Step.{step}
-use Rattle.device_core.specs.Trail.{replay, state_after, IsLegal}
+use Rattle.device_core.specs.Trail.{replay, state_after}
 
 -- the entry of a spelling
 one_entry : (one other : Entry) → Fits one → Fits other → spelling one ≡ spelling other → one ≡ other

@@ -1,5 +1,5 @@
 -- Why a device isn't opened.
-use Rattle.std.proofs.Common.{◌≡◌, ◌≢◌, ◌⊎◌, ⊎_elim, inl, inr, ◌<◌, ◌≤◌, take, length-append, ℕ, List, ◌+◌, ◌∷◌, [], ◌++◌, length, Option, Some, None, Result, Ok, Err, refl, sym, ◌∙◌, ap, subst, arith}
+use Rattle.std.proofs.Common.{◌≡◌, ◌≢◌, ◌⊎◌, ⊎_elim, inl, inr, ◌<◌, ◌≤◌, length-append, ℕ, List, ◌∷◌, [], ◌++◌, length, Option, Some, None, Ok, refl, ◌∙◌, subst, arith}
 use Rattle.std.specs.Prelude.{IfSome}
 use Rattle.std.proofs.lemmas.Bool.{cases_lt}
 use Rattle.std.proofs.lemmas.List.{take_all, take-append-le}
@@ -13,7 +13,7 @@ use Rattle.device_journal.specs.Moments.{LeavesAsRead, LeavesFrom, IsAsRead, uns
 use Rattle.device_core.specs.Crash.{HasAtLeast, IsLeftByOpening, IsLeft, LeavesUnopened, unsynced, synced, AddsOnly}
 use Rattle.device_core.specs.declared.state.State.{State}
 use Rattle.device_core.specs.Faults.{ReadsAs, ContentReadsAs, IsOpenFault}
-use Rattle.device_core.specs.Images.{StandsFor, payloads_of}
+use Rattle.device_core.specs.Images.{StandsFor}
 use Rattle.device_core.specs.Replay.{IsSpelledBy, IsRecoverFault}
 use Rattle.device_core.specs.State.{initial}
 use Rattle.device_core.specs.Trail.{replay}

@@ -1,5 +1,5 @@
 -- What a crash may leave of a device's journal.
-use Rattle.std.specs.Prelude.{◌≡◌, ◌⊎◌, ℕ, ◌+◌, ◌<◌, ◌≤◌, List, [], ◌∷◌, ◌++◌, length, take, slice_get, option_to_list, Option, Some, Result, Ok}
+use Rattle.std.specs.Prelude.{◌≡◌, ◌⊎◌, ℕ, ◌+◌, ◌<◌, ◌≤◌, List, [], ◌∷◌, ◌++◌, length, take, slice_get, option_to_list, Option, Some, Ok}
 use Rattle.entry_form.specs.declared.entry.Entry.{Entry}
 use Rattle.disk_model.specs.Disk.{AddsNoImage}
 use Rattle.device_journal.specs.Moments.{LeavesFrom}

@@ -5,7 +5,7 @@ use Rattle.entry_form.specs.declared.entry.Entry.{Entry}
 use Rattle.entry_codec.specs.Spelling.{Fits}
 use Rattle.disk_model.specs.declared.disk.Disk.{Ghosts}
 use Rattle.device_journal.specs.declared.journal.Journal.{Journal}
-use Rattle.device_journal.specs.Journal.{journal_disk, journal_length, journal_opened, journal_failed}
+use Rattle.device_journal.specs.Journal.{journal_disk, journal_opened, journal_failed}
 use Rattle.device_journal.specs.Frames.{Stands, end_of}
 use Rattle.device_core.specs.declared.state.State.{State}
 use Rattle.device_core.specs.declared.trail.Marked.{Marked}

@@ -1,5 +1,5 @@
 -- Why a device isn't opened, and why a command has no answer.
-use Rattle.std.specs.Prelude.{◌≡◌, ◌+◌, ◌<◌, ℕ, List, [], length, Option, Some, None, IfSome, Result, Ok, Err}
+use Rattle.std.specs.Prelude.{◌≡◌, ◌+◌, ◌<◌, ℕ, List, length, Option, Some, IfSome, Result, Ok, Err}
 use Rattle.field_io.specs.Causes.{Rose}
 use Rattle.entry_form.specs.declared.entry.Entry.{Entry}
 use Rattle.entry_codec.specs.Spelling.{spelling}
@@ -9,7 +9,7 @@ use Rattle.device_journal.specs.Frames.{end_of, limit}
 use Rattle.device_core.specs.declared.fault.SubmitFault.{SubmitFault}
 use Rattle.device_core.specs.declared.fault.SubmitFault.TheVariants as submitting
 use Rattle.device_core.specs.Step.{IsAllowed, IsRefused}
-use Rattle.device_core.specs.Trail.{DeviceView, Stays, IsLegal, replay, entries_of}
+use Rattle.device_core.specs.Trail.{DeviceView, Stays, replay, entries_of}
 use Rattle.device_core.specs.State.{initial}
 use Rattle.device_core.specs.Images.{payloads_of}
 pub use Rattle.device_core.specs.Images.{ReadsAs}

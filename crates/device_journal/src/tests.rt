@@ -125,7 +125,9 @@ fn a_journal_that_met_a_fault_takes_no_more(rt: HostRuntime) -> Result<(), Fail>
     let Ok((mut journal, _)) = open_journal(alloc, fused) else {
         return Err("not opened".into());
     };
+    assert_eq!(rt; journal.failed(), None);
     assert_eq!(rt; journal.append(b"oak"), Err(AppendFault::DiskFault));
+    assert_eq!(rt; journal.failed(), Some(1));
     assert_eq!(rt;
         journal.append(b"oak"),
         Err(AppendFault::Failed { faults: 1 })

@@ -1,6 +1,6 @@
-use Rattle.std.proofs.Common.{rules, ◌≡◌, ◌∙◌, sym, refl, ap, subst}
+use Rattle.std.proofs.Common.{rules, sym, refl, subst}
 use Rattle.device_journal.specs.Moments.{LeavesFrom, IsAsRead, synced}
-use Rattle.device_journal.specs.Journal.{journal_disk, journal_length, journal_opened}
+use Rattle.device_journal.specs.Journal.{journal_length, journal_opened}
 use Rattle.device_core.specs.Device.{shown}
 use Rattle.device_core.specs.Replay.{IsSpelledBy}
 use Rattle.device_core.specs.Trail.{entries_of}

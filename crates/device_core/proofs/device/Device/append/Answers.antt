@@ -1,6 +1,5 @@
 use Rattle.std.proofs.Common.{rules, ◌≡◌, ◌+◌, ◌∷◌, [], ◌++◌, ℕ, List, length, refl, sym, ◌∙◌, ap, subst, arith}
-use Rattle.std.specs.Prelude.{Ok, Err, Some, option_to_list}
-use Rattle.entry_form.specs.declared.entry.Entry.{Entry}
+use Rattle.std.specs.Prelude.{Ok, Err, option_to_list}
 use Rattle.entry_codec.specs.Spelling.{Fits, spelling}
 use Rattle.device_journal.specs.declared.fault.AppendFault.TheVariants as journal
 use Rattle.device_journal.specs.Frames.{Stands, HasFrames}

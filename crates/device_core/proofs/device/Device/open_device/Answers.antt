@@ -1,9 +1,8 @@
-use Rattle.std.proofs.Common.{◌≡◌, ◌≤◌, ◌+◌, ◌∷◌, [], ◌++◌, length, sym, ◌∙◌, ap, subst}
+use Rattle.std.proofs.Common.{◌≤◌, ◌+◌, ◌∷◌, [], ◌++◌, length, sym, ◌∙◌, ap, subst}
 use Rattle.std.specs.Prelude.{Ok, Err}
 use Rattle.entry_form.specs.declared.entry.Entry.TheVariants.{Opened}
 use Rattle.entry_codec.specs.Spelling.{spelling}
 use Rattle.device_journal.specs.Frames.{end_of, limit}
-use Rattle.device_journal.specs.Moments.{LeavesFrom}
 use Rattle.device_core.specs.Images.{payloads_of}
 use Rattle.device_core.specs.Crash.{AddsOnly, HasAtLeast, LeavesUnopened, synced}
 use Rattle.device_core.specs.Faults.{ContentReadsAs, IsOpenFault}
