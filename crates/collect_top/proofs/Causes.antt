@@ -12,11 +12,14 @@ use Rattle.device_core.specs.Faults.{ContentReadsAs, IsFullFor}
 use Rattle.device_core.specs.Images.{ReadsAs, payloads_of}
 use Rattle.device_core.proofs.Once.{reads_once}
 use Rattle.device_core.proofs.Payloads.{end_of-push, payloads-push}
+use Rattle.device_core.specs.State.{initial}
 use Rattle.device_core.specs.Trail.{entries_of}
 use Rattle.collect_top.specs.declared.stop.Stop.TheVariants as stops
 use Rattle.collect_top.specs.Crash.{Images, CrashPrefix}
 use Rattle.collect_top.specs.Headline.{End, end_status, BeginsAt, FitsWithRoom, HasPrinted, HasRoom, HasScript, HasTold, IsFullOpening, PutsFault, Finishes, SerialRun, PrintedAnswers, StatusCauses, IsCause, IsKnown, IsLog, IsRun, IsWhole, is_log, IsOpenedBy, FoundIs, Count, Rises, IsCalm, own_opening}
 use Rattle.collect_top.specs.Run.{LeavesCall}
+use Rattle.collect_top.proofs.Logs.{take_next}
+use Rattle.collect_top.proofs.Rooms.{own_size, room_of_script}
 use Rattle.collect_top.proofs.Runs.{not_both}
 use Rattle.collect_top.specs.Script.{script_lines, most_bytes, Taken}
 use Rattle.collect_top.specs.Session.{KeepsSink, room_of_lines}
@@ -67,12 +70,6 @@ taken_front left_old (Some rest) script taken is h some = (rest, let e : Some sc
 
 read_at : {D : Type 0} (content : D → Option (List ℕ)) (disk : D) (image : List ℕ) (r : Result (List Entry) OpenFault) → content disk ≡ Some image → ContentReadsAs content disk r → ReadsAs image r
 read_at content disk image r is h = let P : Option (List ℕ) → Type 0 = λ o. IfSome o (λ bytes. ReadsAs bytes r) in subst P is h
-
--- one entry more is taken
-take_next : (entries : List Entry) (n : ℕ) (x : Entry) → slice_get entries n ≡ Some x → take (suc n) entries ≡ take n entries ++ x ∷ []
-take_next [] n x is = absurd (cc (is))
-take_next (e ∷ entries) zero x is = ap (λ y. y ∷ []) (cc (is))
-take_next (e ∷ entries) (suc n) x is = ap (λ l. e ∷ l) (take_next entries n x is)
 
 opened_reading : {D : Type 0} (content : D → Option (List ℕ)) (disk : D) (entries : List Entry) (first : ℕ) → 0 < first → FoundIs content disk entries first → (found : List Entry) × ContentReadsAs content disk (Ok found)
 opened_reading content disk entries zero some found = absurd (omega arith)
@@ -285,6 +282,25 @@ module _ {D : Type 0} (words : List (List ℕ)) (content : D → Option (List �
       let h = full_status end nine in
       never_full h.0 (λ run. subst (IsWhole left_new) h.1 (whole run)) unread begins (λ zero. full zero h.0 h.1) (λ some. fits some h.0 h.1) script image found has image_is good room
 
+  -- a journal without entries
+  empty : (image : List ℕ) → length image ≤ 9 → ReadsAs image (Ok [])
+  empty image le = (record { fit = tt; frames = inl (le, refl) }, (initial, refl))
+
+  -- the opening and the commands of a script have room in it
+  empty_room : (script : List ℕ) → length script ≤ most_bytes → end_of (payloads_of []) + 5 + length (spelling own_opening) + room_of_lines (script_lines script) ≤ limit
+  empty_room script le = omega (arith, le, own_size, room_of_script script)
+
+  complete_empty : (end : End) → Cause end
+      → ((script image : List ℕ) (found : List Entry) → HasScript words source left_old left_new script → content disk ≡ Some image → ReadsAs image (Ok found)
+      → end_of (payloads_of found) + 5 + length (spelling own_opening) + room_of_lines (script_lines script) ≤ limit → end_status end ≢ 9)
+      → (script image : List ℕ) → HasScript words source left_old left_new script → IsCalm sink → IsCalm disk_count → content disk ≡ Some image → length image ≤ 9 → (end_status end ≡ 0) ⊎ (end_status end ≡ 7)
+  complete_empty end h fits script image has calm_sink calm_disk image_is le =
+      ⊎_elim (λ zero. inl zero) (λ others. ⊎_elim (λ seven. inr seven) (λ nine. absurd (never has nine)) others) (complete end h script image [] has calm_sink calm_disk image_is (empty image le))
+    where
+      never : HasScript words source left_old left_new script → end_status end ≡ 9 → ⊥
+      never (inl log) nine = fits [] image [] (inl log) image_is (empty image le) (empty_room [] (omega arith)) nine
+      never (inr s) nine = fits script image [] (inr s) image_is (empty image le) (empty_room script s.4) nine
+
   pub status_causes : (end : End) → Cause end → (IsRun words → IsWhole left_new end) → (IsLog words → taken ≡ []) → IsOpenedBy first end → BeginsAt entries first → IsFullOpening content disk first end → FitsWithRoom entries first (script_lines taken) end
       → StatusCauses words content disk left_old left_new source sink disk_count (end_status end)
   status_causes end h whole unread opened begins full fits = record {
@@ -297,6 +313,7 @@ module _ {D : Type 0} (words : List (List ℕ)) (content : D → Option (List �
     journal_told = journal_told end h opened;
     length_told = length_told end h whole;
     complete = complete end h;
+    complete_empty = complete_empty end h (fits_all end whole unread begins full fits);
     fits = fits_all end whole unread begins full fits;
   }
 

@@ -1,11 +1,12 @@
 -- A log is a run with no lines, and the lines of its entries behind it.
-use Rattle.std.proofs.Common.{◌≡◌, ◌≢◌, ◌⊎◌, ⊎_elim, ℕ, zero, suc, ◌+◌, ◌≤◌, ◌<◌, List, [], ◌∷◌, ◌++◌, IsTrue, Bool, true, false, length, drop, take, filter, Option, Some, None, Ok, Err, inl, inr, refl, ap, sym, ◌∙◌, subst, arith, append_assoc, length-append}
+use Rattle.std.proofs.Common.{if◌then◌else◌, ◌≡◌, ◌≢◌, ◌⊎◌, ⊎_elim, ℕ, zero, suc, ◌+◌, ◌≤◌, ◌<◌, List, [], ◌∷◌, ◌++◌, IsTrue, Bool, true, false, length, drop, take, filter, Option, Some, None, Ok, Err, inl, inr, refl, ap, sym, ◌∙◌, subst, arith, append_assoc, length-append}
 use Rattle.std.specs.Prelude.{option_to_list, slice_get}
 use Rattle.std.specs.List.{AllByRecursion}
 use Rattle.std.proofs.lemmas.List.{append-nil}
-use Rattle.std.proofs.Math.ListN.{length-drop}
+use Rattle.std.proofs.Math.ListN.{length-drop, length-take}
 use Rattle.field_io.specs.Causes.{Rose}
 use Rattle.entry_form.specs.declared.entry.Entry.{Entry}
+use Rattle.device_core.specs.declared.trail.Marked.{Marked}
 use Rattle.device_core.specs.declared.trail.Trail.{Trail}
 use Rattle.device_core.specs.Faults.{ContentReadsAs}
 use Rattle.device_core.specs.State.{initial}
@@ -26,7 +27,7 @@ use Rattle.collect_top.proofs.Runs.{opened_by}
 
 -- one line more
 pub log_from-push : (position : ℕ) (entries : List Entry) (entry : Entry) → log_from position (entries ++ entry ∷ []) ≡ log_from position entries ++ printed_entry (position + length entries) entry
-log_from-push position [] entry = append-nil (printed_entry position entry)
+log_from-push position [] entry = let place : position ≡ position + 0 = omega arith in append-nil (printed_entry position entry) ∙ ap (λ n. printed_entry n entry) place
 log_from-push position (e ∷ entries) entry =
     let place : position + 1 + length entries ≡ position + suc (length entries) = omega arith in
     ap (λ t. printed_entry position e ++ t) (log_from-push (position + 1) entries entry ∙ ap (λ n. log_from (position + 1) entries ++ printed_entry n entry) place)
@@ -44,6 +45,27 @@ reaches : (entries : List Entry) (n : ℕ) (x : Entry) → slice_get entries n �
 reaches [] n x is = absurd (cc (is))
 reaches (e ∷ entries) zero x is = omega arith
 reaches (e ∷ entries) (suc n) x is = let h = reaches entries n x is in omega (arith, h)
+
+-- one entry more is taken
+pub take_next : (entries : List Entry) (n : ℕ) (x : Entry) → slice_get entries n ≡ Some x → take (suc n) entries ≡ take n entries ++ x ∷ []
+take_next [] n x is = absurd (cc (is))
+take_next (e ∷ entries) zero x is = ap (λ y. y ∷ []) (cc (is))
+take_next (e ∷ entries) (suc n) x is = ap (λ l. e ∷ l) (take_next entries n x is)
+
+entry_at : (entries : List Marked) (i : ℕ) (m : Marked) → slice_get entries i ≡ Some m → slice_get (entries_of entries) i ≡ Some m.entry
+entry_at [] i m is = absurd (cc (is))
+entry_at (e ∷ entries) zero m is = let same : e ≡ m = cc (is) in ap (λ k. Some k.entry) same
+entry_at (e ∷ entries) (suc i) m is = entry_at entries i m is
+
+-- one entry more has its line
+pub logged_more : (entries : List Marked) (i : ℕ) (m : Marked) (old new : List ℕ) (position : ℕ) → slice_get entries i ≡ Some m → old ≡ log_text (take i (entries_of entries))
+    → new ≡ old ++ printed_entry (position + 1) m.entry → position ≡ i → new ≡ log_text (take (i + 1) (entries_of entries))
+logged_more entries i m old new position at so_far printed place =
+    let within = reaches (entries_of entries) i m.entry (entry_at entries i m at) in
+    let count : position + 1 ≡ 1 + length (take i (entries_of entries)) = omega (arith, place, within, length-take i (entries_of entries)) in
+    let next : suc i ≡ i + 1 = omega arith in
+    printed ∙ (λ k. so_far k ++ printed_entry (count k) m.entry) ∙ sym (log_from-push 1 (take i (entries_of entries)) m.entry)
+    ∙ ap log_text (sym (take_next (entries_of entries) i m.entry (entry_at entries i m at)) ∙ ap (λ n. take n (entries_of entries)) next)
 
 -- where the script has no entry behind the opening, the opening is the last one
 ends_with_opening : (entries : List Entry) (n : ℕ) → BeginsAt entries (suc n) → AllAnswered initial entries (suc n) → length entries ≡ suc n
@@ -97,29 +119,31 @@ logged_from entries zero old new stop begins h = h
 logged_from entries (suc n) old new stop begins h = logged_stop entries n old new begins stop h
 
 -- a log that stopped before its first line
-pub log_stopped : {D : Type 0} (images : Images D) (content : D → Option (List ℕ)) (disk new : D) (held_old held_new : Option (List ℕ)) (sink disk_count : Count) (trail : Trail) (stop : Stop)
-    → LeavesRun false images content disk new [] held_old held_new sink disk_count trail (Err stop) → LeavesRun true images content disk new [] held_old held_new sink disk_count trail (Err stop)
-log_stopped images content disk new held_old held_new sink disk_count trail stop left = record {
-  start = left.start;
-  legal = left.legal;
-  first = left.first;
-  begins = left.begins;
-  found = left.found;
-  told = logged_from (entries_of trail.entries) left.first held_old held_new stop left.begins left.told;
-  opened = left.opened;
-  cause = left.cause;
-  full = left.full;
-  fits = left.fits;
-  crash = record {
-    rest = left.crash.rest;
-    given = left.crash.given;
-    begins = left.crash.begins;
-    legal = left.crash.legal;
-    told = logged_from (entries_of trail.entries ++ option_to_list left.crash.rest) left.first held_old held_new stop left.crash.begins left.crash.told;
-    leaves = left.crash.leaves;
-  };
-  sink = left.sink;
-}
+pub log_stopped : {D : Type 0} (images : Images D) (content : D → Option (List ℕ)) (disk new : D) (held_old held_new : Option (List ℕ)) (sink disk_count : Count) (trail : Trail) (stop : Stop) (end : End) → end ≡ Err stop
+    → LeavesRun false images content disk new [] held_old held_new sink disk_count trail end → LeavesRun true images content disk new [] held_old held_new sink disk_count trail (Err stop)
+log_stopped images content disk new held_old held_new sink disk_count trail stop end is ran =
+    let left : LeavesRun false images content disk new [] held_old held_new sink disk_count trail (Err stop) = subst (LeavesRun false images content disk new [] held_old held_new sink disk_count trail) is ran in
+    record {
+      start = left.start;
+      legal = left.legal;
+      first = left.first;
+      begins = left.begins;
+      found = left.found;
+      told = logged_from (entries_of trail.entries) left.first held_old held_new stop left.begins left.told;
+      opened = left.opened;
+      cause = left.cause;
+      full = left.full;
+      fits = left.fits;
+      crash = record {
+        rest = left.crash.rest;
+        given = left.crash.given;
+        begins = left.crash.begins;
+        legal = left.crash.legal;
+        told = logged_from (entries_of trail.entries ++ option_to_list left.crash.rest) left.first held_old held_new stop left.crash.begins left.crash.told;
+        leaves = left.crash.leaves;
+      };
+      sink = left.sink;
+    }
 
 -- how a log has ended
 record EndsLog (entries : List Entry) (old new : Option (List ℕ)) (reads : Reading) (before now : ℕ) (disk : Count) (end : End) : Type 0 where
@@ -140,11 +164,11 @@ ends_log entries old mid new reads before between now disk (Err _) gained same h
 
 logged_all : (entries : List Entry) (first : ℕ) (old mid new : Option (List ℕ)) (end : End) → 0 < first → BeginsAt entries first → HasAnsweredFrom entries first [] old mid (Ok tt)
     → (Gained old mid [] → HasLogged entries old new end) → HasLoggedFrom entries first old new end
-logged_all entries zero old mid new end some begins told then = absurd (omega (arith, some))
-logged_all entries (suc n) old mid new end some begins told then =
+logged_all entries zero old mid new end some begins told logs = absurd (omega (arith, some))
+logged_all entries (suc n) old mid new end some begins told logs =
     let last : told.1 ≡ suc n = told.2.1 in (
       ends_with_opening entries n begins (subst (AllAnswered initial entries) last told.3),
-      then (subst (Gained old mid) told.2.0 told.4),
+      logs (subst (Gained old mid) told.2.0 told.4),
     )
 
 gained_none : (entries : List Entry) (first : ℕ) (old mid : Option (List ℕ)) → 0 < first → HasAnsweredFrom entries first [] old mid (Ok tt) → Gained old mid []
@@ -152,12 +176,14 @@ gained_none entries zero old mid some told = absurd (omega (arith, some))
 gained_none entries (suc n) old mid some told = subst (Gained old mid) told.2.0 told.4
 
 -- a log that was put
-pub log_put : {D : Type 0} (images : Images D) (content : D → Option (List ℕ)) (disk new : D) (old mid held_new : Option (List ℕ)) (before between now : ℕ) (disk_count : Count) (trail : Trail) (end : End)
-    → LeavesRun false images content disk new [] old mid (record { before = before; now = between }) disk_count trail (Ok tt)
-    → PutsLog (entries_of trail.entries) mid held_new between now end
+pub log_put : {D : Type 0} (images : Images D) (content : D → Option (List ℕ)) (disk new : D) (old mid held_new : Option (List ℕ)) (before between now : ℕ) (disk_count : Count) (trail : Trail) (end : End) (ended : End) → ended ≡ Ok tt
+    → LeavesRun false images content disk new [] old mid (record { before = before; now = between }) disk_count trail ended
+    → (entries : List Marked) → entries ≡ trail.entries → PutsLog (entries_of entries) mid held_new between now end
     → LeavesRun true images content disk new [] old held_new (record { before = before; now = now }) disk_count trail end
-log_put images content disk new old mid held_new before between now disk_count trail end left puts =
-    let entries : List Entry = entries_of trail.entries in
+log_put images content disk new old mid held_new before between now disk_count trail end ended is ran logged same put =
+    let left : LeavesRun false images content disk new [] old mid (record { before = before; now = between }) disk_count trail (Ok tt) =
+    subst (LeavesRun false images content disk new [] old mid (record { before = before; now = between }) disk_count trail) is ran in
+    let puts : PutsLog (entries_of trail.entries) mid held_new between now end = subst (λ (l : List Marked). PutsLog (entries_of l) mid held_new between now end) same put in
     let gained : Gained old mid [] = gained_none (entries_of trail.entries) left.first old mid left.opened left.told in
     let ends : EndsLog (entries_of trail.entries) old held_new (ContentReadsAs content disk) before now disk_count end = ends_log (entries_of trail.entries) old mid held_new (ContentReadsAs content disk) before between now disk_count end gained left.sink puts in
     let told : HasLoggedFrom (entries_of trail.entries) left.first old held_new end = logged_all (entries_of trail.entries) left.first old mid held_new end left.opened left.begins left.told (λ g. ends.logged) in

@@ -308,8 +308,15 @@ taken_nothing (Some rest) = refl
 -- the words of two commands differ
 pub not_both : (words : List (List ℕ)) → IsRun words → IsLog words → ⊥
 not_both [] run log = absurd (cc (run))
-not_both (word ∷ []) run log = absurd (cc (run_word word run, log_word word log))
+not_both (word ∷ []) run log = apart (sym (run_word word run) ∙ log_word word log)
   where
+    first : List ℕ → ℕ
+    first [] = 0
+    first (x ∷ xs) = x
+
+    apart : codes "run" ≡ codes "log" → ⊥
+    apart is = let e : 114 ≡ 108 = ap first is in omega (arith, e)
+
     first_true : (b : Bool) → IsTrue (b && true) → b ≡ true
     first_true true h = refl
     first_true false h = absurd (cc (h))
@@ -354,11 +361,12 @@ cause_of words script reads source sink disk (Err (stops.JournalFull size)) know
 cause_of words script reads source sink disk (Err stops.ScriptTooLong) known le h = absurd h
 
 -- a script was run
-pub run_call : {D : Type 0} (words : List (List ℕ)) (images : Images D) (content : D → Option (List ℕ)) (disk new : D) (left_old left_new held_old held_new : Option (List ℕ)) (source sink disk_count : Count) (script : List ℕ) (trail : Trail) (end : End)
-    → IsRun words → (b : Bool) → b ≡ is_log words → b ≡ false → Reads left_old left_new source.before source.now script
-    → LeavesRun false images content disk new script held_old held_new sink disk_count trail end
+pub run_call : {D : Type 0} (words : List (List ℕ)) (images : Images D) (content : D → Option (List ℕ)) (disk new : D) (left_old left_new held_old held_new : Option (List ℕ)) (source sink disk_count : Count) (script used : List ℕ) (trail : Trail) (end : End)
+    → IsRun words → (b : Bool) → b ≡ is_log words → b ≡ false → Reads left_old left_new source.before source.now script → used ≡ script
+    → LeavesRun false images content disk new used held_old held_new sink disk_count trail end
     → LeavesCall words images content disk new left_old left_new held_old held_new source sink disk_count trail end
-run_call words images content disk new left_old left_new held_old held_new source sink disk_count script trail end run b is not_log reads left =
+run_call words images content disk new left_old left_new held_old held_new source sink disk_count script used trail end run b is not_log reads same ran =
+    let left : LeavesRun false images content disk new script held_old held_new sink disk_count trail end = subst (λ (s : List ℕ). LeavesRun false images content disk new s held_old held_new sink disk_count trail end) same ran in
     let other : false ≡ is_log words = sym not_log ∙ is in
     record {
       script = script;

@@ -250,6 +250,9 @@ pub record StatusCauses {D : Type 0} (words : List (List ℕ)) (content : D → 
   -- for want of memory and for an entry that doesn't fit the journal
   pub complete : (script image : List ℕ) (found : List Entry) → HasScript words source left_old left_new script → IsCalm sink → IsCalm disk_count
       → content disk ≡ Some image → ReadsAs image (Ok found) → (status ≡ 0) ⊎ ((status ≡ 7) ⊎ (status ≡ 9))
+  -- an empty journal has room for every script within its limit
+  pub complete_empty : (script image : List ℕ) → HasScript words source left_old left_new script → IsCalm sink → IsCalm disk_count
+      → content disk ≡ Some image → length image ≤ 9 → (status ≡ 0) ⊎ (status ≡ 7)
   -- an entry that doesn't fit comes only where the journal hasn't room for the opening and the commands of all lines
   pub fits : (script image : List ℕ) (found : List Entry) → HasScript words source left_old left_new script
       → content disk ≡ Some image → ReadsAs image (Ok found)

@@ -218,3 +218,17 @@ fn every_stop_leaves_what_was_told(rt: HostRuntime) -> Result<(), Fail> {
     assert_eq!(rt; printed.as_slice(), SETTINGS_ANSWERS);
     Ok(())
 }
+
+#[test]
+fn the_log_has_a_line_for_each_entry(rt: HostRuntime) -> Result<(), Fail> {
+    let alloc = rt.alloc();
+    let left = run(alloc, &["run"], b"", SETTINGS, no_fails(alloc))?;
+    let left = run(alloc, &["log"], &left.journal, b"quit\n", no_fails(alloc))?;
+    assert_eq!(rt; left.status, 0);
+    let log = b"1 script opened\n2 script autosend\n3 script opened\n";
+    assert_eq!(rt; left.printed.as_slice(), log.as_slice());
+    let left = run(alloc, &["log"], &[0xA7; 10], b"", no_fails(alloc))?;
+    assert_eq!(rt; left.status, 6);
+    assert_eq!(rt; left.printed.as_slice(), b"fault 6 at 0\n".as_slice());
+    Ok(())
+}

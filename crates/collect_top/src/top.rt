@@ -1,4 +1,4 @@
-ghost use Rattle.std.specs.Prelude.{◌≡◌, [], IfOk, IsTrue};
+ghost use Rattle.std.specs.Prelude.{◌≡◌, [], IfOk, IsTrue, false, true};
 ghost use Rattle.device_core.specs.State.{initial};
 ghost use Rattle.device_core.specs.Step.{is_opening};
 ghost use Rattle.device_core.specs.Trail.{IsReady};
