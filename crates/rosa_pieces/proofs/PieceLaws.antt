@@ -246,7 +246,7 @@ one_piece p q x y r s hp hq e =
     let rest-is : r ≡ s = ap (λ (z : Piece × List ℕ). z.1) same in
     (ap (λ (z : Piece × List ℕ). z.0) same, append_cancel_right x y s (ap (λ (z : List ℕ). x ++ z) (sym rest-is) ∙ e), rest-is)
 
-no_piece : (cs : List ℕ) → piece_at cs ≡ None → (p : Piece) (x r : List ℕ) → IsPiece p x → cs ≡ x ++ r → ⊥
+pub no_piece : (cs : List ℕ) → piece_at cs ≡ None → (p : Piece) (x r : List ℕ) → IsPiece p x → cs ≡ x ++ r → ⊥
 no_piece cs e p x r h whole =
     let a : piece_at cs ≡ Some (p, r) = ap piece_at whole ∙ piece_again p x r h in
     none_is_not_some (p, r) (sym e ∙ a)
