@@ -30,13 +30,17 @@ longest_front bytes (suc m) =
     elim (cases_Bool (is_utf8 (take (suc m) bytes))) [
       | inl holds ↦ (suc m, omega arith, IsUtf8-from_is_utf8 (take (suc m) bytes) holds, λ k above within u. absurd (omega arith))
       | inr fails ↦
-          let (n, le, utf8, longest) = longest_front bytes m in
-          (n, omega arith, utf8, λ k above within u. elim (cases_lt m k) [
-            | inl lt ↦
-                let same : k ≡ suc m = omega arith in
-                true≢false (sym (is_utf8-from_IsUtf8 (take (suc m) bytes) (subst (λ (i : ℕ). IsUtf8 (take i bytes)) same u)) ∙ fails)
-            | inr ge ↦ longest k above ge u
-          ])
+          let (n, le, utf8, longest) = longest_front bytes m in (
+            n,
+            omega arith,
+            utf8,
+            λ k above within u. elim (cases_lt m k) [
+              | inl lt ↦
+                  let same : k ≡ suc m = omega arith in
+                  true≢false (sym (is_utf8-from_IsUtf8 (take (suc m) bytes) (subst (λ (i : ℕ). IsUtf8 (take i bytes)) same u)) ∙ fails)
+              | inr ge ↦ longest k above ge u
+            ],
+          )
     ]
 
 valid_up_to : (bytes : List ℕ) → (IsUtf8 bytes → ⊥) → (at : ℕ) × IsValidUpTo bytes at
@@ -44,14 +48,17 @@ valid_up_to bytes not =
     let (n, le, utf8, longest) = longest_front bytes (length bytes) in
     let whole : (k : ℕ) → length bytes ≤ k → IsUtf8 (take k bytes) → ⊥ = λ k ge u. not (subst (λ (t : List ℕ). IsUtf8 t) (take_all k bytes ge) u) in
     elim (cases_lt n (length bytes)) [
-      | inl lt ↦ (n, record {
-        short = lt;
-        front = utf8;
-        longest = λ k above u. elim (cases_lt (length bytes) k) [
-          | inl past ↦ whole k (omega arith) u
-          | inr within ↦ longest k above within u
-        ];
-      })
+      | inl lt ↦ (
+        n,
+        record {
+          short = lt;
+          front = utf8;
+          longest = λ k above u. elim (cases_lt (length bytes) k) [
+            | inl past ↦ whole k (omega arith) u
+            | inr within ↦ longest k above within u
+          ];
+        },
+      )
       | inr ge ↦ absurd (whole n ge utf8)
     ]
 
