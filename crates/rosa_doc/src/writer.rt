@@ -13,10 +13,7 @@ pub fn write_text(text: &Text, out: &mut Vec<u8>) -> Result<(), NoMemory>
 {
     let len = out.len();
     let written = push_text(text, out);
-    if written.is_err() {
-        out.truncate(len);
-    }
-    written
+    or_cut(written, len, out)
 }
 
 /// Appends the text as it stands in an attribute's value between double quotes. After want of memory `out` is as it was.
@@ -26,6 +23,15 @@ pub fn write_attr(text: &Text, out: &mut Vec<u8>) -> Result<(), NoMemory>
 {
     let len = out.len();
     let written = push_value(text, out);
+    or_cut(written, len, out)
+}
+
+/// What was written, or `out` cut to its length before.
+fn or_cut(written: Result<(), NoMemory>, len: usize, out: &mut Vec<u8>) -> Result<(), NoMemory>
+    ensures same { result ≡ written }
+    ensures ok { OnOk result (out.new.items ≡ out.old.items) }
+    ensures err { OnErr result (out.new.items ≡ take len out.old.items) }
+{
     if written.is_err() {
         out.truncate(len);
     }
