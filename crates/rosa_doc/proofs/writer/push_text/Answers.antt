@@ -1,8 +1,7 @@
-use Rattle.std.proofs.Common.{ap, ◌∙◌, length, take}
 use Rattle.std.specs.Str.Iter.{chars_rest}
 use Rattle.std.proofs.lemmas.Str.{IsUtf8-past_char}
 use Rattle.rosa_doc.specs.Escapes.{in_text}
-use Rattle.rosa_doc.proofs.Writing.{writes_on, written, all_kept, kept_on}
+use Rattle.rosa_doc.proofs.Writing.{writes_on, written, kept_on}
 use Rattle.rosa_doc.proofs.writer.push_text.Goals as goal
 
 pub loop-c-preserved : goal.loop-c-preserved
