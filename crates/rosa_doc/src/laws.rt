@@ -1,3 +1,4 @@
+// What holds of any bytes and texts, as contracts of functions that do nothing.
 ghost use Rattle.std.specs.Prelude.{◌≡◌, ℕ, List, Result, map};
 ghost use Rattle.std.specs.List.{flat_map};
 ghost use Rattle.field_text.specs.Xml.{xml_char_of};
