@@ -219,19 +219,6 @@ fn served(alloc: Global, rows: &str) -> Result<Items<ServerRow>, Fail> {
     Ok(read_server(alloc, text.as_bytes()).ok().ok_or("refused")?)
 }
 
-fn tried(
-    rt: &impl Abort,
-    alloc: Global,
-    list: &EntityList,
-    rows: &str,
-    draws: Draws,
-) -> Result<Result<(EntityList, Draws), MergeRefused>, Fail> {
-    let rows = served(alloc, rows)?;
-    assert!(rt; draws.next < 1000);
-    assert!(rt; rows.len() < 10000);
-    Ok(merge(alloc, list, rows.as_slice(), draws))
-}
-
 fn merged(
     rt: &impl Abort,
     alloc: Global,
@@ -239,7 +226,10 @@ fn merged(
     rows: &str,
     draws: Draws,
 ) -> Result<(EntityList, Draws), Fail> {
-    let merged = tried(rt, alloc, list, rows, draws)?;
+    let rows = served(alloc, rows)?;
+    assert!(rt; draws.next < 1000);
+    assert!(rt; rows.len() < 1000);
+    let merged = merge(alloc, list, rows.as_slice(), draws);
     Ok(merged.ok().ok_or("refused")?)
 }
 
@@ -347,23 +337,5 @@ fn an_update_changes_one_row(rt: HostRuntime) -> Result<(), Fail> {
         Err(ActionRefused::AtEnd { id }) => assert_eq!(rt; id.as_str(), "z"),
         _ => assert!(rt; false),
     }
-    Ok(())
-}
-
-// So many rows of the server.
-fn many(alloc: Global, rows: u64) -> Result<String, Fail> {
-    let mut text = String::new(alloc);
-    for row in 0..rows {
-        write!(text, "{row},,1,\n")?;
-    }
-    Ok(text)
-}
-
-#[test]
-fn a_full_list_takes_no_more(rt: HostRuntime) -> Result<(), Fail> {
-    let (list, draws) = started(&rt, rt.alloc())?;
-    let rows = many(rt.alloc(), 4096)?;
-    let refused = tried(&rt, rt.alloc(), &list, rows.as_str(), draws)?.err();
-    assert_eq!(rt; refused, Some(MergeRefused::TooManyRecords { count: 4097 }));
     Ok(())
 }
