@@ -322,6 +322,23 @@ fn check_update(
     Ok(list)
 }
 
+fn id_at_end(refused: ActionRefused) -> Option<Text> {
+    match refused {
+        ActionRefused::AtEnd { id } => Some(id),
+        ActionRefused::TooManyRecords { count: _ } => None,
+        ActionRefused::NoMemory => None,
+    }
+}
+
+// The row `z` has no further version.
+fn check_end(rt: &impl Abort, alloc: Global, list: &EntityList) -> Result<(), Fail> {
+    let acted = updated(rt, alloc, list, "z", "Z3", &[])?;
+    let refused = acted.err().ok_or("done")?;
+    let id = id_at_end(refused).ok_or("another refusal")?;
+    assert_eq!(rt; id.as_str(), "z");
+    Ok(())
+}
+
 #[test]
 fn an_update_changes_one_row(rt: HostRuntime) -> Result<(), Fail> {
     let alloc = rt.alloc();
@@ -333,9 +350,5 @@ fn an_update_changes_one_row(rt: HostRuntime) -> Result<(), Fail> {
     let list = check_update(&rt, alloc, list, "q", "Q", &pairs, want)?;
     let want = "e E 2 - 01 false h=7 k=6;z Z2 1000000000000000 999999999999999 02 true h=1;";
     let list = check_update(&rt, alloc, list, "z", "Z2", &[], want)?;
-    match updated(&rt, alloc, &list, "z", "Z3", &[])? {
-        Err(ActionRefused::AtEnd { id }) => assert_eq!(rt; id.as_str(), "z"),
-        _ => assert!(rt; false),
-    }
-    Ok(())
+    check_end(&rt, alloc, &list)
 }
