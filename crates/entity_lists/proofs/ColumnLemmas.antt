@@ -1,5 +1,5 @@
 -- The columns of a header: places of names, and names taken once.
-use Rattle.std.proofs.Common.{◌≡◌, ◌≢◌, ℕ, zero, suc, ◌+◌, ◌<◌, ◌≤◌, ◌&&◌, ◌||◌, ◌==◌, nat_lt, not, Bool, true, false, true≢false, if◌then◌else◌, List, [], ◌∷◌, ◌++◌, length, map, filter, take, drop, position, get_or, Option, Some, None, unwrap_or, slice_get, Bor, arith, add-one, append_assoc, ap, sym, subst, refl, inl, inr, ◌∙◌, zero-add}
+use Rattle.std.proofs.Common.{◌≡◌, ◌≢◌, ℕ, suc, ◌+◌, ◌<◌, ◌&&◌, nat_lt, not, Bool, true, false, true≢false, List, [], ◌∷◌, ◌++◌, length, map, filter, take, drop, position, get_or, Some, unwrap_or, slice_get, Bor, arith, add-one, append_assoc, ap, sym, subst, refl, inl, inr, ◌∙◌}
 use Rattle.std.proofs.lemmas.Bool.{ltb-true, lt-ltb}
 use Rattle.std.proofs.Math.Seq.{drop-cons, take-suc}
 use Rattle.std.proofs.lemmas.List.Folds.{list_all_at}
@@ -9,7 +9,6 @@ use Rattle.std.proofs.lemmas.Bool.{cases_Bool}
 use Rattle.std.proofs.lemmas.List.{append-nil, get_or-map, length-map, length-take-le, take-append-drop}
 use Rattle.std.proofs.lemmas.List.Elements.{filter-append}
 use Rattle.std.proofs.lemmas.Option.{slice_get-map, unwrap_or-slice_get}
-use Rattle.std.proofs.lemmas.Slice.Eq.{bytes_eq-Decides}
 use Rattle.entity_lists.specs.CsvRecords.{contents}
 use Rattle.entity_lists.specs.ServerRows.{column_place, field_at_place, field_under, first_of_each, is_property}
 use Rattle.entity_lists.specs.declared.server_rows.PropColumn.{PropColumn}

@@ -1,14 +1,13 @@
 -- Rows in their order: the first fault among them, and the rows that name an entity.
-use Rattle.std.proofs.Common.{◌≡◌, ℕ, zero, suc, ◌+◌, ◌<◌, ◌≤◌, ◌==◌, nat_lt, Bool, true, false, true≢false, if◌then◌else◌, codes, List, [], ◌∷◌, ◌++◌, length, map, filter, take, drop, get_or, Option, Some, None, Bor, arith, add-one, ap, sym, subst, refl, inl, inr, ◌∙◌}
+use Rattle.std.proofs.Common.{◌≡◌, ℕ, suc, ◌+◌, ◌<◌, ◌≤◌, nat_lt, true, false, codes, List, [], ◌∷◌, ◌++◌, length, map, filter, take, drop, get_or, Option, Some, None, arith, add-one, ap, sym, refl, inl, inr, ◌∙◌}
 use Rattle.std.specs.Option.{option_or}
 use Rattle.std.specs.List.{list_all}
 use Rattle.std.specs.Str.{is_utf8}
 use Rattle.std.proofs.lemmas.Bool.{cases_Bool, eq-eqb, lt-ltb, ltb-true}
-use Rattle.std.proofs.lemmas.List.{append-nil, length-take-le, map-append, take-append-drop}
+use Rattle.std.proofs.lemmas.List.{length-take-le, map-append, take-append-drop}
 use Rattle.std.proofs.lemmas.List.Elements.{filter-append}
 use Rattle.std.proofs.Math.Seq.{drop-cons, take-suc}
 use Rattle.entity_lists.specs.ServerRows.{field_under, is_named, row_fault, row_limit, rows_fault, server_row, version_in}
-use Rattle.entity_lists.specs.declared.entities.ServerRow.{ServerRow}
 use Rattle.entity_lists.specs.declared.server_rows.CsvRefused.{CsvRefused}
 use Rattle.entity_lists.specs.declared.server_rows.CsvRefused.TheVariants.{TooMany}
 use Rattle.entity_lists.proofs.FirstLemmas.{if_passes}

@@ -1,9 +1,9 @@
 -- First rows of ids, and the ids of a merged list.
-use Rattle.std.proofs.Common.{◌≡◌, ◌≢◌, ℕ, zero, suc, ◌+◌, ◌<◌, ◌≤◌, ◌&&◌, ◌||◌, ◌==◌, not, Bool, true, false, true≢false, if◌then◌else◌, All, AllPairs, List, [], ◌∷◌, ◌++◌, length, map, filter, find, take, position, get_or, Option, Some, None, is_none, unwrap_or, Bor, arith, add-one, ap, sym, subst, refl, inl, inr, ◌∙◌}
+use Rattle.std.proofs.Common.{◌≡◌, ◌≢◌, ℕ, suc, ◌+◌, ◌<◌, ◌≤◌, ◌&&◌, not, Bool, true, false, true≢false, if◌then◌else◌, All, AllPairs, List, [], ◌∷◌, ◌++◌, length, map, filter, find, take, get_or, Option, Some, None, is_none, Bor, arith, add-one, ap, sym, subst, refl, inl, inr, ◌∙◌}
 use Rattle.std.specs.List.{cons_option, filter_map, list_any}
 use Rattle.std.specs.Str.{bytes_eq}
 use Rattle.std.proofs.lemmas.Bool.{cases_Bool}
-use Rattle.std.proofs.lemmas.List.{append-nil, length-map, map-append}
+use Rattle.std.proofs.lemmas.List.{length-map, map-append}
 use Rattle.std.proofs.lemmas.List.Elements.{All-append, All-cons, All-head, All-map, All-nil, All-tail, filter-append, filter_map-append, filter_passes}
 use Rattle.std.proofs.lemmas.List.Kept.{AllPairs-cons, AllPairs-filter}
 use Rattle.std.proofs.lemmas.Slice.Eq.{bytes_eq-Decides}

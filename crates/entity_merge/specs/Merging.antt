@@ -1,5 +1,5 @@
 -- What becomes of a local entity list when the server's is merged into it.
-use Rattle.std.specs.Prelude.{All, Contains, ◌≡◌, ◌<◌, ℕ, ◌+◌, ◌==◌, ◌&&◌, ◌||◌, not, nat_lt, Bool, true, false, if◌then◌else◌, List, [], ◌∷◌, ◌++◌, length, map, filter, find, position, Option, Some, None, is_none, unwrap_or}
+use Rattle.std.specs.Prelude.{All, Contains, ◌≡◌, ◌<◌, ℕ, ◌+◌, ◌==◌, ◌&&◌, ◌||◌, not, nat_lt, Bool, true, false, if◌then◌else◌, List, [], ◌++◌, map, filter, find, position, Option, Some, None, is_none, unwrap_or}
 use Rattle.std.specs.List.{filter_map}
 use denote.Ref.{Bor}
 use Rattle.std.specs.Str.{bytes_eq}

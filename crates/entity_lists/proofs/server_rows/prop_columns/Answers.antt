@@ -1,10 +1,10 @@
 -- The names found so far are those of the columns read so far, each with its place.
-use Rattle.std.proofs.Common.{◌≡◌, ◌≤◌, ◌+◌, ◌<◌, ◌&&◌, not, ◌++◌, ◌∷◌, [], List, ℕ, Bor, Bool, Some, true, false, map, filter, length, take, drop, get_or, All, subst, length-append, arith, Vec, Global, ap, sym, refl, ◌∙◌}
+use Rattle.std.proofs.Common.{◌≡◌, ◌≤◌, ◌+◌, ◌&&◌, not, ◌++◌, ◌∷◌, [], List, ℕ, Bor, Some, map, filter, length, take, drop, get_or, All, subst, length-append, arith, Vec, Global, ap, sym, ◌∙◌}
 use Rattle.std.specs.List.{list_any}
 use Rattle.std.specs.Str.{bytes_eq, is_utf8}
 use Rattle.std.proofs.lemmas.List.{append-nil, length-map, map-append, take-append-drop, take_all}
 use Rattle.std.proofs.lemmas.List.Elements.{All-push}
-use Rattle.std.proofs.Math.Seq.{take-append_seam, take-length}
+use Rattle.std.proofs.Math.Seq.{take-append_seam}
 use Rattle.entity_lists.specs.CsvRecords.{contents}
 use Rattle.entity_lists.specs.ServerRows.{column_place, first_of_each, is_property, property_names}
 use Rattle.entity_lists.specs.declared.server_rows.PropColumn.{PropColumn}

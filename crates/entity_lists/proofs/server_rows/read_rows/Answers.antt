@@ -1,10 +1,10 @@
 -- Row by row: no fault so far, and the rows kept are those that name an entity.
-use Rattle.std.proofs.Common.{◌≡◌, ◌≢◌, ◌⊎◌, ◌+◌, ◌<◌, ◌≤◌, ◌==◌, ◌++◌, ◌∷◌, [], not, List, ℕ, Bor, Bool, true, false, Vec, Global, Some, None, map, filter, take, length, get_or, arith, ap, sym, subst, refl, inl, inr, ◌∙◌}
-use Rattle.std.proofs.lemmas.List.{append-nil, get_or-map, length-map, take_all}
+use Rattle.std.proofs.Common.{◌≡◌, ◌+◌, ◌<◌, ◌≤◌, ◌==◌, ◌++◌, [], not, List, ℕ, Bor, true, false, Vec, Global, Some, None, map, filter, take, length, get_or, arith, ap, sym, inl, inr, ◌∙◌}
+use Rattle.std.proofs.lemmas.List.{append-nil, get_or-map, length-map}
 use Rattle.std.proofs.lemmas.Result.{err_from_is_err_and}
 use Rattle.csv.specs.Records.{Row, fields_of}
 use Rattle.entity_lists.specs.CsvRecords.{contents}
-use Rattle.entity_lists.specs.ServerRows.{is_named, row_fault, rows_fault, server_row}
+use Rattle.entity_lists.specs.ServerRows.{is_named, row_fault, server_row}
 use Rattle.entity_lists.specs.declared.entities.ServerRow.{ServerRow}
 use Rattle.entity_lists.specs.declared.server_rows.CsvRefused.TheVariants.{TooMany}
 use Rattle.entity_lists.proofs.FirstLemmas.{if_passes}

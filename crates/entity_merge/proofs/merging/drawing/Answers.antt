@@ -1,4 +1,4 @@
-use Rattle.std.proofs.Common.{◌≡◌, ◌+◌, ◌++◌, ◌∷◌, [], List, ℕ, Bor, Bool, Vec, Global, true, false, filter, take, ap, sym, ◌∙◌}
+use Rattle.std.proofs.Common.{◌≡◌, ◌+◌, ◌++◌, ◌∷◌, [], List, Bor, Bool, Vec, Global, true, false, filter, take, ap, sym, ◌∙◌}
 use Rattle.std.proofs.lemmas.List.{append-nil, map-append}
 use Rattle.entity_lists.specs.declared.entities.ServerRow.{ServerRow}
 use Rattle.entity_lists.proofs.FirstLemmas.{if_passes}

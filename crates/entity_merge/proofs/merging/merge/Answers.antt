@@ -1,5 +1,5 @@
 -- The merged list is made of its two parts, and its ids differ.
-use Rattle.std.proofs.Common.{◌≡◌, ◌+◌, ◌<◌, ◌≤◌, List, ℕ, AllPairs, length, arith, ap, sym, subst, inr, ◌∙◌}
+use Rattle.std.proofs.Common.{◌≡◌, ◌<◌, ◌≤◌, List, AllPairs, length, arith, ap, sym, subst, inr, ◌∙◌}
 use Rattle.entity_lists.specs.ServerRows.{row_limit}
 use Rattle.entity_lists.specs.declared.entities.EntityRow.{EntityRow}
 use Rattle.entity_merge.specs.Merging.{NewerStay, OfflineStay, merged_rows}
