@@ -2,7 +2,8 @@
 use Rattle.std.specs.Prelude.{ℕ, List, [], ◌∷◌, Bool, true, false, codes, Option, Some, None, if◌then◌else◌}
 use Rattle.std.specs.Str.{bytes_eq}
 use lib.Pointwise.{pointwise}
-use Rattle.entry_form.specs.declared.command.Command.TheVariants.{AutoSend}
+use Rattle.field_text.specs.declared.mode.Mode.TheVariants.{Manual, Previous, Exact}
+use Rattle.entry_form.specs.declared.command.Command.TheVariants.{AutoSend, UpdateMode}
 use Rattle.device_core.specs.declared.answer.Query.TheVariants.{Settings}
 use Rattle.collect_text.specs.Lines.{without_return}
 use Rattle.collect_text.specs.Words.{words_of, is_skipped}
@@ -18,7 +19,10 @@ words_meaning words =
     else (if same_words words (codes "show" ∷ codes "settings" ∷ []) then Look Settings
     else (if same_words words (codes "set" ∷ codes "autosend" ∷ codes "on" ∷ []) then Give (AutoSend true)
     else (if same_words words (codes "set" ∷ codes "autosend" ∷ codes "off" ∷ []) then Give (AutoSend false)
-    else NotBuilt)))
+    else (if same_words words (codes "set" ∷ codes "mode" ∷ codes "manual" ∷ []) then Give (UpdateMode Manual)
+    else (if same_words words (codes "set" ∷ codes "mode" ∷ codes "previous" ∷ []) then Give (UpdateMode Previous)
+    else (if same_words words (codes "set" ∷ codes "mode" ∷ codes "exact" ∷ []) then Give (UpdateMode Exact)
+    else NotBuilt))))))
 
 abbrev pub told_meaning : Option (List (List ℕ)) → Line
 told_meaning (Some words) = words_meaning words

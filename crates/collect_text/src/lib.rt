@@ -11,6 +11,6 @@ mod word;
 
 pub use line::{Line, read_line};
 pub use lines::{next_line, without_return};
-pub use print::{print_answer, print_refused, print_word};
+pub use print::{print_answer, print_entry, print_refused, print_word};
 pub use printed::{print_text, printed_words_are_read};
 pub use word::{is_skipped, words};

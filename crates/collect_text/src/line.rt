@@ -4,7 +4,7 @@ ghost use Rattle.collect_text.specs.Line.{meaning, words_meaning, same_words};
 use crate::{is_skipped, without_return, words};
 use device_core::Query;
 use entry_form::Command;
-use field_text::{NoMemory, Text};
+use field_text::{Mode, NoMemory, Text};
 use std::alloc::Global;
 
 /// What a line of a script asks for.
@@ -45,6 +45,12 @@ fn line_of(words: &[Text]) -> Line
         Line::Give(Command::AutoSend(true))
     } else if are_words(words, &["set", "autosend", "off"]) {
         Line::Give(Command::AutoSend(false))
+    } else if are_words(words, &["set", "mode", "manual"]) {
+        Line::Give(Command::UpdateMode(Mode::Manual))
+    } else if are_words(words, &["set", "mode", "previous"]) {
+        Line::Give(Command::UpdateMode(Mode::Previous))
+    } else if are_words(words, &["set", "mode", "exact"]) {
+        Line::Give(Command::UpdateMode(Mode::Exact))
     } else {
         Line::NotBuilt
     }

@@ -1,5 +1,7 @@
+pub mod Crash
 pub mod Headline
 pub mod Input
+pub mod Log
 pub mod Output
 pub mod Run
 pub mod Script

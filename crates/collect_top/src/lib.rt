@@ -2,6 +2,7 @@
 #![tactic(auto)]
 
 mod input;
+mod log;
 mod output;
 mod session;
 mod stop;
@@ -10,6 +11,7 @@ mod tests;
 mod top;
 
 pub use input::read_script;
+pub use log::put_log;
 pub use output::{put_all, put_fault};
 pub use session::answer_lines;
 pub use stop::Stop;

@@ -1,10 +1,10 @@
-ghost use Rattle.std.specs.Prelude.{◌≡◌, ◌≢◌, length, None, IfOk, IfErr, OnOk};
+ghost use Rattle.std.specs.Prelude.{◌≡◌, ◌≢◌, length, IfOk, IfErr, OnOk};
 ghost use Rattle.device_core.specs.State.{initial};
-ghost use Rattle.device_core.specs.Trail.{entries_of};
+ghost use Rattle.device_core.specs.Trail.{IsReady, entries_of};
 ghost use Rattle.collect_text.specs.Answers.{IsWord, printed_answer, printed_refused};
-ghost use Rattle.collect_top.specs.Headline.{HasAnswered};
-ghost use Rattle.collect_top.specs.Script.{is_quit, script_lines};
-ghost use Rattle.collect_top.specs.Session.{Grows, IsLinesCause, KeepsSink, Answers, StopsAt, LineAnswered, LineStops};
+ghost use Rattle.collect_top.specs.Run.{AnswersLines};
+ghost use Rattle.collect_top.specs.Script.{is_quit};
+ghost use Rattle.collect_top.specs.Session.{AddsEntries, Answers, StopsAt, LineAnswered, LineStops};
 ghost use Rattle.collect_top.specs.Transcript.{IsSaid, IsTold};
 
 use crate::{Stop, put_all};
@@ -58,9 +58,10 @@ fn told<D: Disk>(alloc: Global, query: Query, device: &Device<D>) -> Result<Vec<
 
 // The answer to a command, or its refusal.
 fn given<D: Disk>(alloc: Global, command: Command, device: &mut Device<D>) -> Result<Vec<u8>, Stop>
-    requires { device.old.failed ≡ None }
+    requires { IsReady device.old }
     ensures answers { IfOk result (λ text. Answers D.faults (Line.Give command) device.old device.new text.items) }
     ensures stops { IfErr result (StopsAt D.faults (Line.Give command) device.old device.new) }
+    ensures adds { AddsEntries D.since D.clock device.old device.new }
 {
     match device.submit(alloc, Hand::Script, command) {
         Ok(told) => Ok(answer_text(alloc, told)?),
@@ -72,9 +73,10 @@ fn given<D: Disk>(alloc: Global, command: Command, device: &mut Device<D>) -> Re
 
 // What a line prints, made whole before its first byte goes out.
 fn piece<D: Disk>(alloc: Global, line: Line, device: &mut Device<D>) -> Result<Vec<u8>, Stop>
-    requires { device.old.failed ≡ None }
+    requires { IsReady device.old }
     ensures answers { IfOk result (λ text. Answers D.faults line device.old device.new text.items) }
     ensures stops { IfErr result (StopsAt D.faults line device.old device.new) }
+    ensures adds { AddsEntries D.since D.clock device.old device.new }
 {
     match line {
         Line::Skipped => Ok(Vec::new(alloc)),
@@ -92,11 +94,12 @@ fn answer_line<D: Disk, Si: Sink>(
     device: &mut Device<D>,
     sink: &mut Si,
 ) -> Result<(), Stop>
-    requires { device.old.failed ≡ None }
+    requires { IsReady device.old }
     ensures answered { OnOk result (LineAnswered D.faults line device.old device.new
         (Si.held sink.old) (Si.held sink.new) (Si.faults sink.old) (Si.faults sink.new)) }
     ensures stopped { IfErr result (LineStops D.faults line device.old device.new
         (Si.held sink.old) (Si.held sink.new) (Si.faults sink.old) (Si.faults sink.new)) }
+    ensures adds { AddsEntries D.since D.clock device.old device.new }
 {
     let text = piece(alloc, line, device)?;
     match put_all(sink, &text) {
@@ -118,12 +121,9 @@ pub fn answer_lines<D: Disk, Si: Sink>(
     device: &mut Device<D>,
     sink: &mut Si,
 ) -> Result<(), Stop>
-    requires { device.old.failed ≡ None }
-    ensures answers { HasAnswered (entries_of device.new.entries) (length (entries_of device.old.entries)) (script_lines script.now)
-        (Si.held sink.old) (Si.held sink.new) result }
-    ensures grows { Grows device.old device.new }
-    ensures cause { IsLinesCause (D.faults device.old.disk) (D.faults device.new.disk) (Si.faults sink.old) (Si.faults sink.new) result }
-    ensures sink { KeepsSink (Si.faults sink.old) (Si.faults sink.new) result }
+    requires { IsReady device.old }
+    ensures { AnswersLines (record { clock = D.clock; may = D.may; since = D.since }) D.faults device.old device.new script.now
+        (Si.held sink.old) (Si.held sink.new) (Si.faults sink.old) (Si.faults sink.new) result }
 {
     let mut rest = script;
     'lines: while let Some((line, after)) = next_line(rest) {

@@ -1,5 +1,5 @@
 use crate::*;
-use disk_model::{MemDisk, StumbleDisk};
+use disk_model::{FusedDisk, MemDisk, StumbleDisk};
 use field_io::{FixedClock, MemDialer, MemSink, MemSource};
 use field_text::Text;
 use std::alloc::Global;
@@ -41,6 +41,27 @@ fn hand(alloc: Global) -> Hand1<MemDialer, FixedClock> {
     }
 }
 
+fn hands(alloc: Global) -> Hands<MemDialer, FixedClock> {
+    Hands {
+        script: hand(alloc),
+        sender: hand(alloc),
+        updater: hand(alloc),
+        lister: hand(alloc),
+    }
+}
+
+fn texts(alloc: Global, words: &[&str]) -> Result<Vec<Text>, Fail> {
+    let mut texts = Vec::new(alloc);
+    for word in words {
+        texts.push(Text::from_string(String::from_str(alloc, word)?))?;
+    }
+    Ok(texts)
+}
+
+fn memory(alloc: Global, journal: &[u8]) -> Result<MemDisk, Fail> {
+    Ok(MemDisk::make(alloc, Vec::from_slice(alloc, journal)?)?)
+}
+
 fn run(
     alloc: Global,
     words: &[&str],
@@ -49,27 +70,11 @@ fn run(
     fails: Fails,
 ) -> Result<Left, Fail> {
     let Fails { source, sink, disk } = fails;
-    let mut texts = Vec::new(alloc);
-    for word in words {
-        texts.push(Text::from_string(String::from_str(alloc, word)?))?;
-    }
     let mut source = MemSource::make(Vec::from_slice(alloc, script)?, source);
     let mut sink = MemSink::make(Vec::new(alloc), sink);
-    let memory = MemDisk::make(alloc, Vec::from_slice(alloc, journal)?)?;
-    let hands = Hands {
-        script: hand(alloc),
-        sender: hand(alloc),
-        updater: hand(alloc),
-        lister: hand(alloc),
-    };
-    let done = collect_alone(
-        alloc,
-        &texts,
-        &mut source,
-        &mut sink,
-        StumbleDisk::make(memory, disk),
-        hands,
-    );
+    let disk = StumbleDisk::make(memory(alloc, journal)?, disk);
+    let texts = texts(alloc, words)?;
+    let done = collect_alone(alloc, &texts, &mut source, &mut sink, disk, hands(alloc));
     let Done {
         status,
         disk,
@@ -89,7 +94,7 @@ fn scripts_are_answered(rt: HostRuntime) -> Result<(), Fail> {
     let alloc = rt.alloc();
     let long = [b'#'; 8193];
     let closed = [0xA7u8; 10];
-    let cases: [(&[&str], &[u8], &[u8], u8, &[u8], usize); 12] = [
+    let cases: [(&[&str], &[u8], &[u8], u8, &[u8], usize); 13] = [
         (&["run"], b"", SETTINGS, 0, SETTINGS_ANSWERS, 57),
         (&["run"], b"", b"", 0, b"", 49),
         (&["run"], &closed[..9], b"quit\n", 0, b"1 bye\n", 49),
@@ -113,6 +118,14 @@ fn scripts_are_answered(rt: HostRuntime) -> Result<(), Fail> {
             0,
             b"2 ok\n3 ok\n",
             65,
+        ),
+        (
+            &["run"],
+            b"",
+            b"set mode exact\nset mode previous\nshow settings\nset mode manual\n",
+            0,
+            b"2 ok\n3 ok\n3 settings mode previous autosend off\n4 ok\n",
+            73,
         ),
         (&["run"], b"", &long[..8192], 0, b"", 49),
         (&["run"], b"", &long, 10, b"fault 10\n", 0),
@@ -159,5 +172,63 @@ fn each_failing_call_has_its_status(rt: HostRuntime) -> Result<(), Fail> {
             assert_eq!(rt; left.printed.as_slice(), b"fault 5\n".as_slice());
         }
     }
+    Ok(())
+}
+
+// The status and the printed text of a script over a disk that stops at call k, and the disk below.
+fn stop_at(alloc: Global, k: u64) -> Result<(u8, Vec<u8>, MemDisk), Fail> {
+    let mut source = MemSource::make(Vec::from_slice(alloc, SETTINGS)?, Vec::new(alloc));
+    let mut sink = MemSink::make(Vec::new(alloc), Vec::new(alloc));
+    let disk = FusedDisk::make(memory(alloc, b"")?, k);
+    let texts = texts(alloc, &["run"])?;
+    let done = collect_alone(alloc, &texts, &mut source, &mut sink, disk, hands(alloc));
+    let printed = Vec::from_slice(alloc, sink.bytes())?;
+    Ok((done.status, printed, done.disk.into_disk()))
+}
+
+// What `show settings` prints over a disk.
+fn settings_on(alloc: Global, disk: MemDisk) -> Result<Vec<u8>, Fail> {
+    let mut source = MemSource::make(Vec::from_slice(alloc, b"show settings")?, Vec::new(alloc));
+    let mut sink = MemSink::make(Vec::new(alloc), Vec::new(alloc));
+    let texts = texts(alloc, &["run"])?;
+    let _done = collect_alone(alloc, &texts, &mut source, &mut sink, disk, hands(alloc));
+    Ok(Vec::from_slice(alloc, sink.bytes())?)
+}
+
+// Five calls make the journal; the opening takes calls 6 to 9 and the command 10 to 13. Each entry's gate is written by the
+// third of its calls, so a stop at the fourth leaves the entry, which was not told.
+#[test]
+fn every_stop_leaves_what_was_told(rt: HostRuntime) -> Result<(), Fail> {
+    let alloc = rt.alloc();
+    for k in 1..14u64 {
+        let (status, printed, disk) = stop_at(alloc, k)?;
+        assert_eq!(rt; status, 5);
+        assert_eq!(rt; printed.as_slice(), b"fault 5\n".as_slice());
+        let want: &[u8] = if k <= 8 {
+            b"1 settings mode manual autosend off\n"
+        } else if k <= 12 {
+            b"2 settings mode manual autosend off\n"
+        } else {
+            b"3 settings mode manual autosend on\n"
+        };
+        assert_eq!(rt; settings_on(alloc, disk)?.as_slice(), want);
+    }
+    let (status, printed, _disk) = stop_at(alloc, 14)?;
+    assert_eq!(rt; status, 0);
+    assert_eq!(rt; printed.as_slice(), SETTINGS_ANSWERS);
+    Ok(())
+}
+
+#[test]
+fn the_log_has_a_line_for_each_entry(rt: HostRuntime) -> Result<(), Fail> {
+    let alloc = rt.alloc();
+    let left = run(alloc, &["run"], b"", SETTINGS, no_fails(alloc))?;
+    let left = run(alloc, &["log"], &left.journal, b"quit\n", no_fails(alloc))?;
+    assert_eq!(rt; left.status, 0);
+    let log = b"1 script opened\n2 script autosend\n3 script opened\n";
+    assert_eq!(rt; left.printed.as_slice(), log.as_slice());
+    let left = run(alloc, &["log"], &[0xA7; 10], b"", no_fails(alloc))?;
+    assert_eq!(rt; left.status, 6);
+    assert_eq!(rt; left.printed.as_slice(), b"fault 6 at 0\n".as_slice());
     Ok(())
 }

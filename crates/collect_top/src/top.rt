@@ -1,11 +1,12 @@
-ghost use Rattle.std.specs.Prelude.{◌≡◌, [], IfOk, IsTrue, None};
+ghost use Rattle.std.specs.Prelude.{◌≡◌, [], IfOk, IsTrue, false, true};
 ghost use Rattle.device_core.specs.State.{initial};
 ghost use Rattle.device_core.specs.Step.{is_opening};
-ghost use Rattle.device_core.specs.Trail.{Replays};
-ghost use Rattle.collect_top.specs.Headline.{LeavesRun, LeavesCall, Finishes, SerialRun, PrintedAnswers, StatusCauses, is_run, end_status, own_opening};
-ghost use Rattle.collect_top.specs.Run.{LeavesLines};
+ghost use Rattle.device_core.specs.Trail.{IsReady};
+ghost use Rattle.collect_top.specs.Crash.{CrashPrefix};
+ghost use Rattle.collect_top.specs.Headline.{Finishes, SerialRun, PrintedAnswers, StatusCauses, is_log, is_run, end_status, own_opening};
+ghost use Rattle.collect_top.specs.Run.{LeavesLines, LeavesRun, LeavesCall};
 
-use crate::{Stop, answer_lines, put_fault, read_script};
+use crate::{Stop, answer_lines, put_fault, put_log, read_script};
 use device_core::{Device, State, Trail};
 use disk_model::Disk;
 use entry_form::{Entry, Opening};
@@ -74,8 +75,8 @@ fn run_lines<D: Disk, Si: Sink>(
     sink: &mut Si,
     device: Device<D>,
 ) -> Ran<D>
-    requires { device.failed ≡ None }
-    ensures { LeavesLines D.faults device script.now (Si.held sink.old) (Si.held sink.new) (Si.faults sink.old) (Si.faults sink.new)
+    requires { IsReady device }
+    ensures { LeavesLines (record { clock = D.clock; may = D.may; since = D.since }) D.faults device script.now (Si.held sink.old) (Si.held sink.new) (Si.faults sink.old) (Si.faults sink.new)
         result.disk result.trail result.end }
 {
     let mut device = device;
@@ -86,7 +87,7 @@ fn run_lines<D: Disk, Si: Sink>(
 
 // Opens the device, and answers the lines of a script.
 fn run_script<D: Disk, Si: Sink>(alloc: Global, script: &[u8], sink: &mut Si, disk: D) -> Ran<D>
-    ensures { LeavesRun D.content disk script.now (Si.held sink.old) (Si.held sink.new)
+    ensures { LeavesRun false (record { clock = D.clock; may = D.may; since = D.since }) D.content disk result.disk script.now (Si.held sink.old) (Si.held sink.new)
         (record { before = Si.faults sink.old; now = Si.faults sink.new })
         (record { before = D.faults disk; now = D.faults result.disk }) result.trail result.end }
 {
@@ -110,6 +111,26 @@ fn run_script<D: Disk, Si: Sink>(alloc: Global, script: &[u8], sink: &mut Si, di
     }
 }
 
+// Opens the device, and puts the line of each of its entries.
+fn run_log<D: Disk, Si: Sink>(alloc: Global, sink: &mut Si, disk: D) -> Ran<D>
+    ensures { LeavesRun true (record { clock = D.clock; may = D.may; since = D.since }) D.content disk result.disk [] (Si.held sink.old) (Si.held sink.new)
+        (record { before = Si.faults sink.old; now = Si.faults sink.new })
+        (record { before = D.faults disk; now = D.faults result.disk }) result.trail result.end }
+{
+    let Ran { disk, trail, end } = run_script(alloc, &[], sink, disk);
+    match end {
+        Ok(()) => {
+            let end = put_log(alloc, trail.entries.as_slice(), sink);
+            Ran { disk, trail, end }
+        }
+        Err(stop) => Ran {
+            disk,
+            trail,
+            end: Err(stop),
+        },
+    }
+}
+
 fn is_run(words: &[Text]) -> bool
     ensures { result ≡ is_run words.now }
 {
@@ -119,7 +140,16 @@ fn is_run(words: &[Text]) -> bool
     }
 }
 
-// Reads the script and runs it, where the words are those of the one command.
+fn is_log(words: &[Text]) -> bool
+    ensures { result ≡ is_log words.now }
+{
+    match words {
+        [word] => word.as_str() == "log",
+        _ => false,
+    }
+}
+
+// Runs the script that the source gives, or prints the log, as the words ask.
 fn run<So: Source, Si: Sink, D: Disk>(
     alloc: Global,
     words: &[Text],
@@ -127,11 +157,14 @@ fn run<So: Source, Si: Sink, D: Disk>(
     sink: &mut Si,
     disk: D,
 ) -> Ran<D>
-    ensures { LeavesCall words.now D.content disk (So.left source.old) (So.left source.new) (Si.held sink.old) (Si.held sink.new)
+    ensures { LeavesCall words.now (record { clock = D.clock; may = D.may; since = D.since }) D.content disk result.disk (So.left source.old) (So.left source.new) (Si.held sink.old) (Si.held sink.new)
         (record { before = So.faults source.old; now = So.faults source.new })
         (record { before = Si.faults sink.old; now = Si.faults sink.new })
         (record { before = D.faults disk; now = D.faults result.disk }) result.trail result.end }
 {
+    if is_log(words) {
+        return run_log(alloc, sink, disk);
+    }
     if !is_run(words) {
         return Ran {
             disk,
@@ -164,8 +197,9 @@ fn finish<Si: Sink>(sink: &mut Si, end: Result<(), Stop>) -> u8
     }
 }
 
-/// Runs the one command over the outside that is handed in. It always returns, and the disk and the hands' devices come
-/// back with the status and the entries.
+/// Runs a command over the outside that is handed in: `run` answers the script that the source gives, and `log` prints a line
+/// for each entry of the journal and reads no script. It always returns, and the disk and the hands' devices come back with
+/// the status and the entries.
 pub fn collect_alone<So: Source, Si: Sink, D: Disk, N: Dialer, C: Clock>(
     alloc: Global,
     words: &[Text],
@@ -180,6 +214,9 @@ pub fn collect_alone<So: Source, Si: Sink, D: Disk, N: Dialer, C: Clock>(
         (record { before = Si.faults sink.old; now = Si.faults sink.new })
         (record { before = D.faults disk; now = D.faults result.disk }) result.status result.trail }
     ensures transmissions { result.hands ≡ hands }
+    ensures crash { CrashPrefix (record { clock = D.clock; may = D.may; since = D.since }) words.now D.content disk result.disk
+        (So.left source.old) (So.left source.new) (Si.held sink.old) (Si.held sink.new)
+        (record { before = Si.faults sink.old; now = Si.faults sink.new }) result.status result.trail }
     ensures status { StatusCauses words.now D.content disk (So.left source.old) (So.left source.new)
         (record { before = So.faults source.old; now = So.faults source.new })
         (record { before = Si.faults sink.old; now = Si.faults sink.new })

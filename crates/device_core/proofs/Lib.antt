@@ -1,6 +1,7 @@
-pub mod Appending
+mod Appending
+pub mod Crashes
+pub mod Once
 mod Opening
-pub mod OneReading
-mod Payloads
-mod Replays
+pub mod Payloads
+pub mod Replays
 mod Spellings

@@ -1,12 +1,14 @@
 -- Payloads as spelled entries.
-use Rattle.std.proofs.Common.{◌≡◌, ◌≢◌, ◌↔◌, ℕ, ◌+◌, ◌<◌, ◌≤◌, List, [], ◌∷◌, ◌++◌, length, take, drop, map, Result, Ok, Err, IsErr, refl, sym, ◌∙◌, ap, subst, arith, append_assoc, take-append-drop}
+use Rattle.std.proofs.Common.{◌≡◌, ◌≢◌, ◌↔◌, ℕ, ◌+◌, ◌<◌, ◌≤◌, List, [], ◌∷◌, ◌++◌, length, take, drop, Result, Ok, Err, IsErr, refl, sym, ◌∙◌, ap, subst, arith, length-append, take-append-drop}
 use Rattle.std.specs.List.{AllByRecursion}
-use Rattle.std.proofs.lemmas.List.{append-nil, drop_more, take_more, take_all, map-append}
+use Rattle.std.proofs.lemmas.List.{append-nil, take_all, map-append}
 use Rattle.entry_form.specs.declared.entry.Entry.{Entry}
 use Rattle.entry_codec.specs.declared.fault.EntryRefused.{EntryRefused}
 use Rattle.entry_codec.specs.declared.fault.EntryRefused.TheVariants as refused
 use Rattle.entry_codec.specs.Spelling.{Fits, spelling, IsUnspelled}
 use Rattle.device_core.specs.Images.{IsOffSpelling, IsOffFrom, payloads_of}
+use Rattle.std.specs.Int.{w32, to_le_bytes}
+use Rattle.device_journal.specs.Frames.{frame, chain, end_of}
 use Rattle.device_journal.specs.declared.fault.OpenFault.{OpenFault}
 use Rattle.device_journal.specs.declared.fault.OpenFault.TheVariants as faults
 use Rattle.std.specs.Prelude.{IfOk}
@@ -38,6 +40,16 @@ whole_read payload entry used le found = sym (take_all used payload le) ∙ foun
 all_push : {X : Type 0} (P : X → Type 0) (xs : List X) (x : X) → AllByRecursion P xs → P x → AllByRecursion P (xs ++ x ∷ [])
 all_push P [] x all p = (p, tt)
 all_push P (y ∷ xs) x all p = (all.0, all_push P xs x all.1 p)
+
+pub end_of-push : (payloads : List (List ℕ)) (payload : List ℕ) → end_of (payloads ++ payload ∷ []) ≡ end_of payloads + 5 + length payload
+end_of-push payloads payload = let e = by payloads in omega (arith, e)
+  where
+    one : length (frame payload) ≡ 5 + length payload
+    one = let four : length (to_le_bytes w32 (length payload)) ≡ 4 = refl in omega (arith, four, length-append (to_le_bytes w32 (length payload)) payload)
+
+    by : (ps : List (List ℕ)) → length (chain (ps ++ payload ∷ [])) ≡ length (chain ps) + (5 + length payload)
+    by [] = omega (arith, one, length-append (frame payload) [])
+    by (p ∷ ps) = let rest = by ps in omega (arith, rest, length-append (frame p) (chain (ps ++ payload ∷ [])), length-append (frame p) (chain ps))
 
 pub payloads-push : (entries : List Entry) (entry : Entry) → payloads_of (entries ++ entry ∷ []) ≡ payloads_of entries ++ spelling entry ∷ []
 payloads-push entries entry = map-append spelling entries (entry ∷ [])

@@ -1,17 +1,16 @@
 -- Replaying entries one by one.
-use Rattle.std.proofs.Common.{◌≡◌, ℕ, suc, ◌+◌, ◌<◌, ◌≤◌, List, [], ◌∷◌, ◌++◌, length, map, Option, Some, None, Result, Ok, Err, refl, sym, ◌∙◌, ap, subst, arith, append_assoc}
-use Rattle.std.specs.Prelude.{reverse, option_to_list}
+use Rattle.std.proofs.Common.{◌≡◌, ℕ, ◌+◌, List, [], ◌∷◌, ◌++◌, length, map, Option, Some, None, Err, refl, sym, ◌∙◌, ap, subst, arith, append_assoc}
+use Rattle.std.specs.Prelude.{reverse}
 use Rattle.std.specs.Option.{option_and_then}
-use Rattle.std.proofs.lemmas.List.{append-nil, map-append, reverse-append}
+use Rattle.std.proofs.lemmas.List.{map-append, reverse-append}
 use Rattle.entry_form.specs.declared.entry.Entry.{Entry}
 use Rattle.device_core.specs.declared.refused.Refused.{Refused}
 use Rattle.device_core.specs.declared.state.State.{State}
 use Rattle.device_core.specs.declared.trail.Marked.{Marked}
 use Rattle.device_core.specs.Images.{IsRefusedFrom}
-use Rattle.device_core.specs.Replay.{marked_at}
 use Rattle.device_core.specs.State.{initial}
 use Rattle.device_core.specs.Step.{step}
-use Rattle.device_core.specs.Trail.{entries_of, replay, state_after}
+use Rattle.device_core.specs.Trail.{entries_of, marked_at, replay, state_after}
 
 pub replay-append : (start : State) (entries more : List Entry) → replay start (entries ++ more) ≡ option_and_then (λ next. replay next more) (replay start entries)
 replay-append start [] more = refl

@@ -1,11 +1,9 @@
 -- What the entries that the rules allow take in bytes.
-use Rattle.std.proofs.Common.{◌≡◌, ℕ, ◌+◌, ◌<◌, ◌≤◌, ◌^◌, List, [], ◌∷◌, ◌++◌, length, Bool, true, false, cond, Result, Ok, Err, refl, sym, ◌∙◌, ap, subst, arith, length-append}
-use Rattle.std.specs.Prelude.{not, ◌&&◌, nat_le, nat_lt, if◌then◌else◌}
-use Rattle.std.specs.Int.{w32, w64, to_le_bytes}
+use Rattle.std.proofs.Common.{◌≡◌, ℕ, ◌+◌, ◌≤◌, ◌^◌, List, [], ◌++◌, length, Bool, true, false, Result, Ok, Err, refl, ap, arith, length-append}
+use Rattle.std.specs.Prelude.{◌&&◌, nat_le, nat_lt, if◌then◌else◌}
+use Rattle.std.specs.Int.{w32, to_le_bytes}
 use Rattle.std.specs.Str.{bytes_eq}
 use Rattle.std.proofs.lemmas.Slice.Eq.{bytes_eq-Decides}
-use Rattle.field_text.specs.declared.mode.Mode.TheVariants.{Manual, Previous, Exact}
-use Rattle.entry_form.specs.declared.command.Command.{Command}
 use Rattle.entry_form.specs.declared.command.Command.TheVariants.{AutoSend, UpdateMode}
 use Rattle.entry_form.specs.declared.entry.Entry.{Entry}
 use Rattle.entry_form.specs.declared.entry.Entry.TheVariants.{Opened, Done}
@@ -26,7 +24,7 @@ not_built state x is = by (nat_le most_entries state.position) _ is
     by true e was = absurd (cc (was))
     by false e was = absurd (cc (was))
 
-is_opened : (b : Bool) (r : Result (State × Answer) Refused) (x : State × Answer) → (if not b then Err BadValue else r) ≡ Ok x → b ≡ true
+is_opened : (b : Bool) (r : Result (State × Answer) Refused) (x : State × Answer) → (if b then r else Err BadValue) ≡ Ok x → b ≡ true
 is_opened true r x is = refl
 is_opened false r x is = absurd (cc (is))
 

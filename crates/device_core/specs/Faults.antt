@@ -1,51 +1,50 @@
 -- Why a device isn't opened, and why a command has no answer.
-use Rattle.std.specs.Prelude.{◌≡◌, ◌+◌, ◌<◌, ℕ, List, [], length, Option, Some, None, IfSome, Result, Ok, Err}
+use Rattle.std.specs.Prelude.{◌≡◌, ◌+◌, ◌<◌, ℕ, List, length, Option, Some, IfSome, Result, Ok, Err}
 use Rattle.field_io.specs.Causes.{Rose}
 use Rattle.entry_form.specs.declared.entry.Entry.{Entry}
 use Rattle.entry_codec.specs.Spelling.{spelling}
 use Rattle.device_journal.specs.declared.fault.OpenFault.{OpenFault}
 use Rattle.device_journal.specs.declared.fault.OpenFault.TheVariants as opening
-use Rattle.device_journal.specs.Frames.{HasFrames, IsOffAt, end_of, limit}
+use Rattle.device_journal.specs.Frames.{end_of, limit}
 use Rattle.device_core.specs.declared.fault.SubmitFault.{SubmitFault}
 use Rattle.device_core.specs.declared.fault.SubmitFault.TheVariants as submitting
-use Rattle.device_core.specs.Step.{IsRefused}
-use Rattle.device_core.specs.Trail.{DeviceView, Stays, IsLegal, replay, entries_of}
+use Rattle.device_core.specs.Step.{IsAllowed, IsRefused}
+use Rattle.device_core.specs.Trail.{DeviceView, Stays, replay, entries_of}
 use Rattle.device_core.specs.State.{initial}
-use Rattle.device_core.specs.Images.{StandsFor, IsOffFrom, IsRefusedFrom, payloads_of}
-
--- What the image of a journal reads as: a legal list of entries, or what is wrong with it.
-abbrev pub ReadsAs : List ℕ → Result (List Entry) OpenFault → Type 0
-ReadsAs image (Ok entries) = StandsFor image entries × IsLegal initial entries
-ReadsAs image (Err (opening.BadJournal at)) = IsOffAt image at
-ReadsAs image (Err (opening.BadEntry position)) = (payloads : List (List ℕ)) × HasFrames image payloads × IsOffFrom payloads position
-ReadsAs image (Err (opening.IllegalEntry position)) = (entries : List Entry) × StandsFor image entries × IsRefusedFrom entries position
-ReadsAs image (Err _) = ⊥
+use Rattle.device_core.specs.Images.{payloads_of}
+pub use Rattle.device_core.specs.Images.{ReadsAs}
 
 -- the image that a disk told is read so, if it told one
 abbrev pub ContentReadsAs : {D : Type 0} → (D → Option (List ℕ)) → D → Result (List Entry) OpenFault → Type 0
 ContentReadsAs content disk reading = IfSome (content disk) (λ image. ReadsAs image reading)
 
--- behind these entries there is no room for this one in a journal of so many bytes
+-- behind these entries, in so many bytes, there is no room for this one
 pub record IsFull (entries : List Entry) (entry : Entry) (size : ℕ) : Type 0 where
   pub size_is : size ≡ end_of (payloads_of entries)
   pub past : limit < size + 5 + length (spelling entry)
 
+-- behind the entries of the disk's journal there is no room for the opening
+pub record IsFullFor {D : Type 0} (content : D → Option (List ℕ)) (disk : D) (opening : Entry) (size : ℕ) : Type 0 where
+  pub found : List Entry
+  pub reads : ContentReadsAs content disk (Ok found)
+  pub full : IsFull found opening size
+
 module _ {D : Type 0} (content : D → Option (List ℕ)) (faults : D → ℕ) where
-  -- why the device wasn't opened on the old disk, which came back as the new one
-  abbrev pub IsOpenFault : D → D → OpenFault → Type 0
-  IsOpenFault old new opening.DiskFault = Rose (faults old) (faults new)
-  IsOpenFault old new (opening.BadJournal at) = (faults new ≡ faults old) × ContentReadsAs content old (Err (opening.BadJournal at))
-  IsOpenFault old new (opening.BadEntry position) = (faults new ≡ faults old) × ContentReadsAs content old (Err (opening.BadEntry position))
-  IsOpenFault old new (opening.IllegalEntry position) = (faults new ≡ faults old) × ContentReadsAs content old (Err (opening.IllegalEntry position))
-  IsOpenFault old new (opening.Full length) = (faults new ≡ faults old) × ((found : List Entry) × ContentReadsAs content old (Ok found))
-  IsOpenFault old new opening.NoMemory = faults new ≡ faults old
+  -- why the device wasn't opened so on the old disk, which came back as the new one
+  abbrev pub IsOpenFault : Entry → D → D → OpenFault → Type 0
+  IsOpenFault entry old new opening.DiskFault = Rose (faults old) (faults new)
+  IsOpenFault entry old new (opening.BadJournal at) = (faults new ≡ faults old) × ContentReadsAs content old (Err (opening.BadJournal at))
+  IsOpenFault entry old new (opening.BadEntry position) = (faults new ≡ faults old) × ContentReadsAs content old (Err (opening.BadEntry position))
+  IsOpenFault entry old new (opening.IllegalEntry position) = (faults new ≡ faults old) × ContentReadsAs content old (Err (opening.IllegalEntry position))
+  IsOpenFault entry old new (opening.Full size) = (faults new ≡ faults old) × IsFullFor content old entry size
+  IsOpenFault entry old new opening.NoMemory = faults new ≡ faults old
 
   -- why the entry wasn't appended
   abbrev pub IsSubmitFault : Entry → DeviceView D → DeviceView D → SubmitFault → Type 0
   IsSubmitFault entry old new (submitting.Refused position why) =
       (new ≡ old) × (position ≡ length old.entries) × (replay initial (entries_of old.entries) ≡ Some old.state) × IsRefused old.state entry why
-  IsSubmitFault entry old new (submitting.Full length) = new ≡ old
-  IsSubmitFault entry old new submitting.DiskFault = Stays old new × Rose (faults old.disk) (faults new.disk)
+  IsSubmitFault entry old new (submitting.Full size) = (new ≡ old) × IsAllowed old.state entry
+  IsSubmitFault entry old new submitting.DiskFault = Stays old new × Rose (faults old.disk) (faults new.disk) × IsAllowed old.state entry
   IsSubmitFault entry old new (submitting.Failed count) = (new ≡ old) × (old.failed ≡ Some count)
 
 -- what opening answers where its own entry wasn't appended

@@ -1,9 +1,11 @@
 -- The entries that the image of a journal stands for.
-use Rattle.std.specs.Prelude.{◌≡◌, ℕ, ◌+◌, ◌<◌, List, ◌∷◌, ◌++◌, length, map, Option, Some, None, IfSome, Result, Ok, Err}
+use Rattle.std.specs.Prelude.{◌≡◌, ℕ, ◌+◌, List, ◌∷◌, ◌++◌, length, map, Some, Result, Ok, Err}
 use Rattle.std.specs.List.{AllByRecursion}
 use Rattle.entry_form.specs.declared.entry.Entry.{Entry}
 use Rattle.entry_codec.specs.Spelling.{Fits, spelling}
 use Rattle.device_journal.specs.Frames.{HasFrames, IsOffAt}
+use Rattle.device_journal.specs.declared.fault.OpenFault.{OpenFault}
+use Rattle.device_journal.specs.declared.fault.OpenFault.TheVariants as opening
 use Rattle.device_core.specs.declared.refused.Refused.{Refused}
 use Rattle.device_core.specs.declared.state.State.{State}
 use Rattle.device_core.specs.State.{initial}
@@ -44,3 +46,11 @@ pub record IsRefusedFrom (entries : List Entry) (position : ℕ) : Type 0 where
   pub reached : replay initial before ≡ Some state
   pub refuses : step state refused ≡ Err why
   pub place : position ≡ length before + 1
+
+-- What the image of a journal reads as: a legal list of entries, or what is wrong with it.
+abbrev pub ReadsAs : List ℕ → Result (List Entry) OpenFault → Type 0
+ReadsAs image (Ok entries) = StandsFor image entries × IsLegal initial entries
+ReadsAs image (Err (opening.BadJournal at)) = IsOffAt image at
+ReadsAs image (Err (opening.BadEntry position)) = (payloads : List (List ℕ)) × HasFrames image payloads × IsOffFrom payloads position
+ReadsAs image (Err (opening.IllegalEntry position)) = (entries : List Entry) × StandsFor image entries × IsRefusedFrom entries position
+ReadsAs image (Err _) = ⊥

@@ -5,3 +5,4 @@ pub mod Trail
 pub mod Images
 pub mod Replay
 pub mod Device
+pub mod Crash

@@ -1,11 +1,10 @@
 -- What reading and replaying payloads gives.
-use Rattle.std.specs.Prelude.{◌≡◌, ℕ, List, Result, Err}
+use Rattle.std.specs.Prelude.{◌≡◌, ℕ, List, Err}
 use Rattle.std.specs.List.{AllByRecursion}
 use Rattle.entry_form.specs.declared.entry.Entry.{Entry}
 use Rattle.entry_codec.specs.Spelling.{Fits}
 use Rattle.device_journal.specs.declared.fault.OpenFault.{OpenFault}
 use Rattle.device_journal.specs.declared.fault.OpenFault.TheVariants.{BadEntry, IllegalEntry, NoMemory}
-use Rattle.device_core.specs.declared.trail.Marked.{Marked}
 use Rattle.device_core.specs.declared.refused.Refused.{Refused}
 use Rattle.device_core.specs.declared.state.State.{State}
 use Rattle.device_core.specs.Step.{step}
@@ -46,6 +45,3 @@ IsRecoverFault payloads (BadEntry position) = IsOffFrom payloads position
 IsRecoverFault payloads (IllegalEntry position) = (entries : List Entry) × IsSpelledBy payloads entries × IsRefusedFrom entries position
 IsRecoverFault payloads NoMemory = Unit {0}
 IsRecoverFault payloads _ = ⊥
-
-abbrev pub marked_at : ℕ → Entry → Marked
-marked_at moment entry = record { entry = entry; moment = moment }

@@ -1,5 +1,5 @@
 -- One step of the rules: the next state and the answer, or the first refusal that applies.
-use Rattle.std.specs.Prelude.{◌≡◌, ◌<◌, ℕ, ◌+◌, ◌^◌, List, Bool, not, ◌&&◌, nat_le, nat_lt, codes, Result, Ok, Err, if◌then◌else◌}
+use Rattle.std.specs.Prelude.{◌≡◌, ◌<◌, ℕ, ◌+◌, ◌^◌, List, Bool, ◌&&◌, nat_le, nat_lt, codes, Result, Ok, Err, if◌then◌else◌}
 use Rattle.std.specs.Str.{bytes_eq}
 use Rattle.field_text.specs.declared.mode.Mode.{Mode}
 use Rattle.entry_form.specs.declared.command.Command.{Command}
@@ -40,38 +40,41 @@ limited state result = if nat_le most_entries state.position then Err (Limit Cou
 abbrev pub accepted : State → State → Stepped
 accepted state next = limited state (Ok (next, answers.Done))
 
--- The device is opened, which counts as a tick.
-abbrev pub opened : State → Opening → Stepped
-opened state opening = if not (is_opening opening) then Err BadValue
-    else accepted state (record state { device = opening.device; server = opening.server; last_tick = state.position + 1; position = state.position + 1 })
+-- the device is opened, which counts as a tick
+abbrev pub opened_by : State → Opening → State
+opened_by state opening = record state { device = opening.device; server = opening.server; last_tick = state.position + 1; position = state.position + 1 }
 
-abbrev pub auto_send_set : State → Bool → Stepped
-auto_send_set state on = accepted state (record state { settings = record state.settings { auto_send = on }; position = state.position + 1 })
+abbrev pub with_auto_send : State → Bool → State
+with_auto_send state on = record state { settings = record state.settings { auto_send = on }; position = state.position + 1 }
 
-abbrev pub mode_set : State → Mode → Stepped
-mode_set state mode = accepted state (record state { settings = record state.settings { mode = mode }; position = state.position + 1 })
+abbrev pub with_mode : State → Mode → State
+with_mode state mode = record state { settings = record state.settings { mode = mode }; position = state.position + 1 }
 
 -- a command of a hand
 abbrev pub commanded : State → Command → Stepped
-commanded state (AutoSend on) = auto_send_set state on
-commanded state (UpdateMode mode) = mode_set state mode
+commanded state (AutoSend on) = accepted state (with_auto_send state on)
+commanded state (UpdateMode mode) = accepted state (with_mode state mode)
 commanded state _ = limited state (Err NotBuilt)
 
 abbrev pub step : State → Entry → Stepped
-step state (Opened opening) = opened state opening
+step state (Opened opening) = if is_opening opening then accepted state (opened_by state opening) else Err BadValue
 step state (Done hand command) = commanded state command
 
 -- the state after a change, one position further
 abbrev pub changed : State → Change → State
-changed state (ToOpened opening) = record state { device = opening.device; server = opening.server; last_tick = state.position + 1; position = state.position + 1 }
-changed state (ToAutoSend on) = record state { settings = record state.settings { auto_send = on }; position = state.position + 1 }
-changed state (ToUpdateMode mode) = record state { settings = record state.settings { mode = mode }; position = state.position + 1 }
+changed state (ToOpened opening) = opened_by state opening
+changed state (ToAutoSend on) = with_auto_send state on
+changed state (ToUpdateMode mode) = with_mode state mode
 
 -- the rules allow the entry, and the change makes its step
 pub record Prepares (state : State) (entry : Entry) (prepared : Prepared) : Type 0 where
   pub same : prepared.entry ≡ entry
   pub below : state.position < most_entries
   pub step_is : step state entry ≡ Ok (changed state prepared.change, answers.Done)
+
+-- the rules don't refuse the entry
+abbrev pub IsAllowed : State → Entry → Type 0
+IsAllowed state entry = (next : State × Answer) × (step state entry ≡ Ok next)
 
 -- the rules refuse the entry so; want of memory is free
 abbrev pub IsRefused : State → Entry → Refused → Type 0

@@ -1,8 +1,8 @@
 // The parts of an append.
-ghost use Rattle.std.specs.Prelude.{◌≡◌, ◌∷◌, [], ◌++◌, ◌<◌, Ok, IfOk, OnOk, vec_len, vec_capacity};
+ghost use Rattle.std.specs.Prelude.{◌≡◌, ◌∷◌, [], ◌++◌, ◌<◌, Ok, IfOk, OnOk, Some, vec_len, vec_capacity};
 ghost use Rattle.entry_codec.specs.Spelling.{Fits, IsShort, spelling};
 ghost use Rattle.device_core.specs.Step.{step, Prepares};
-ghost use Rattle.device_core.specs.Replay.{marked_at};
+ghost use Rattle.device_core.specs.Trail.{marked_at};
 
 use crate::answer::Answer;
 use crate::state::State;
@@ -46,4 +46,20 @@ pub fn make_step(
     let (entry, answer) = apply(state, prepared);
     let _pushed = entries.push(Marked { entry, moment });
     answer
+}
+
+// Lets a step go.
+pub fn discard(prepared: Prepared) {
+    let Prepared {
+        entry: _,
+        change: _,
+    } = prepared;
+}
+
+// Keeps the entry of a step whose append met a fault.
+pub fn keep_rest(rest: &mut Option<Entry>, prepared: Prepared)
+    ensures { rest.new ≡ Some prepared.entry }
+{
+    let Prepared { entry, change: _ } = prepared;
+    *rest = Some(entry);
 }

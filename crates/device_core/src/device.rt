@@ -1,15 +1,17 @@
-ghost use Rattle.std.specs.Prelude.{◌≡◌, ◌≤◌, ◌+◌, ◌<◌, ℕ, length, take, Some, None, Ok, Err, IsTrue, IfOk, IfErr, IsErrOf, OnOk};
+ghost use Rattle.std.specs.Prelude.{option_to_list, List, ◌≡◌, ◌≤◌, ◌+◌, ◌++◌, ◌∷◌, [], ◌<◌, ℕ, length, take, Some, None, Ok, Err, IsTrue, IfOk, IfErr, IsErrOf, OnOk};
 ghost use Rattle.entry_codec.specs.Spelling.{spelling};
 ghost use Rattle.device_journal.specs.Frames.{end_of, limit};
 ghost use Rattle.device_core.specs.State.{initial, answer_to};
 ghost use Rattle.device_core.specs.Step.{is_opening, Prepares};
 ghost use Rattle.device_core.specs.Device.{IsLoaded};
 ghost use Rattle.device_core.specs.Images.{payloads_of};
-ghost use Rattle.device_core.specs.Trail.{entries_of, IsOpened, Appends, replay};
+ghost use Rattle.device_journal.specs.Moments.{LeavesFrom, LeavesAsRead, IsAsRead};
+ghost use Rattle.device_core.specs.Crash.{AddsOnly, Crash, HasAtLeast, HasCrash, LeavesUnopened};
+ghost use Rattle.device_core.specs.Trail.{entries_of, IsLegal, IsOpened, Appends, replay};
 ghost use Rattle.device_core.specs.Faults.{ContentReadsAs, IsFull, IsOpenFault, IsSubmitFault};
 
 use crate::answer::Query;
-use crate::append::{make_step, spell_with_room};
+use crate::append::{discard, keep_rest, make_step, spell_with_room};
 use crate::fault::{SubmitFault, Told, open_fault};
 use crate::refused::Refused;
 use crate::replay::recover;
@@ -44,15 +46,18 @@ impl<D: Disk> Model for Device<D> {
 
     ghost view = { λ d. shown d.journal d.state d.entries.items d.found d.rest };
 
-    ghost invariant = { λ d. IsKept D.content (journal_length d.journal) (shown d.journal d.state d.entries.items d.found d.rest) };
+    ghost invariant = { λ d. IsKept D.content D.since D.clock (journal_length d.journal) (shown d.journal d.state d.entries.items d.found d.rest) };
 }
 
 // A device with the entries of a disk's journal.
 fn load<D: Disk>(alloc: Global, disk: D) -> Result<Device<D>, (D, OpenFault)>
     ensures loaded { IfOk result IsLoaded }
+    ensures any_moment { IfOk result (λ device. LeavesFrom D.clock D.since disk device.disk device.opened (HasAtLeast (entries_of device.entries) device.found)) }
+    ensures as_read { IfOk result (λ device. LeavesFrom D.clock D.since disk device.disk device.opened (IsAsRead (D.content disk))) }
+    ensures any_moment_err { IfErr result (λ e. LeavesAsRead D.clock D.may D.since (D.content disk) disk e.0) }
     ensures read { IfOk result (λ device. ContentReadsAs D.content disk (Ok (entries_of device.entries))) }
     ensures kept { IfOk result (λ device. D.faults device.disk ≡ D.faults disk) }
-    ensures fault { IfErr result (λ e. IsOpenFault D.content D.faults disk e.0 e.1) }
+    ensures fault { IfErr result (λ e. (opening : Entry) → IsOpenFault D.content D.faults opening disk e.0 e.1) }
 {
     let (journal, payloads) = match open_journal(alloc, disk) {
         Ok(opened) => opened,
@@ -74,7 +79,8 @@ fn load<D: Disk>(alloc: Global, disk: D) -> Result<Device<D>, (D, OpenFault)>
 }
 
 impl<D: Disk> Device<D> {
-    /// Opens the device on a journal, replays its entries, and appends the opening. A refusal gives the disk back.
+    /// Opens the device on a journal, replays its entries, and appends the opening. A refusal gives the disk back. The
+    /// limit of entries can't refuse the opening: a journal has fewer bytes than that.
     pub fn open_device(
         alloc: Global,
         disk: D,
@@ -84,7 +90,14 @@ impl<D: Disk> Device<D> {
         ensures opened { IfOk result (IsOpened (Entry.Opened opening)) }
         ensures read { IfOk result (λ device. ContentReadsAs D.content disk (Ok (take device.found (entries_of device.entries)))) }
         ensures kept { IfOk result (λ device. D.faults device.disk ≡ D.faults disk) }
-        ensures fault { IfErr result (λ e. IsOpenFault D.content D.faults disk e.0 e.1) }
+        ensures fault { IfErr result (λ e. IsOpenFault D.content D.faults (Entry.Opened opening) disk e.0 e.1) }
+        ensures room { IfOk result (λ device. end_of (payloads_of (take device.found (entries_of device.entries))) + 5 + length (spelling (Entry.Opened opening)) ≤ limit) }
+
+        // Until the first sync a crash leaves what it might have left before; from then on the entries found, or these and
+        // the opening.
+        ensures any_moment { IfOk result (λ device. LeavesFrom D.clock D.since disk device.disk device.opened (HasAtLeast (entries_of device.entries) device.found)) }
+        ensures any_moment_err { IfErr result (λ e. LeavesUnopened D.clock D.may D.since (D.content disk) (Entry.Opened opening) disk e.0) }
+        ensures crash { IfOk result (HasCrash D.since D.clock) }
     {
         let mut device = match load(alloc, disk) {
             Ok(device) => device,
@@ -99,7 +112,7 @@ impl<D: Disk> Device<D> {
         }
     }
 
-    /// Carries a hand's command out. At `Ok` its entry lasts.
+    /// Carries a hand's command out. At `Ok` its entry lasts. After a fault of the disk the device refuses each command.
     pub fn submit(
         &mut self,
         alloc: Global,
@@ -112,6 +125,13 @@ impl<D: Disk> Device<D> {
         ensures failed { (count : ℕ) → self.old.failed ≡ Some count → result ≡ Err (SubmitFault.Failed count) }
         ensures full { (size : ℕ) → IsErrOf result (SubmitFault.Full size) → IsFull (entries_of self.old.entries) (Entry.Done hand command) size }
         ensures room { OnOk result (end_of (payloads_of (entries_of self.old.entries)) + 5 + length (spelling (Entry.Done hand command)) ≤ limit) }
+        ensures opened { self.new.opened ≡ self.old.opened }
+        ensures stopped { IsErrOf result SubmitFault.DiskFault → (self.new.failed ≡ Some (D.faults self.new.disk)) × (self.new.rest ≡ Some (Entry.Done hand command)) }
+
+        // A crash at any moment of the call leaves the entries from before it, with the new one or without.
+        ensures any_moment { AddsOnly D.since D.clock self.old.disk self.new.disk (HasAtLeast (entries_of self.new.entries ++ option_to_list self.new.rest) (length self.old.entries)) }
+        ensures durable { IfOk result (λ told. (c : List ℕ) → D.since self.new.disk (D.clock self.new.disk) c → HasAtLeast (entries_of self.new.entries) told.position c) }
+        ensures crash { HasCrash D.since D.clock self.new }
     {
         if let Some(faults) = self.journal.failed() {
             return Err(SubmitFault::Failed { faults });
@@ -134,6 +154,11 @@ impl<D: Disk> Device<D> {
         ensures refused { (position : ℕ) (why : _) → IsErrOf result (SubmitFault.Refused position why) → why ≡ Refused.NoMemory }
         ensures full { (size : ℕ) → IsErrOf result (SubmitFault.Full size) → IsFull (entries_of self.old.entries) prepared.entry size }
         ensures room { OnOk result (end_of (payloads_of (entries_of self.old.entries)) + 5 + length (spelling prepared.entry) ≤ limit) }
+        ensures opened { self.new.opened ≡ self.old.opened }
+        ensures stopped { IsErrOf result SubmitFault.DiskFault → (self.new.failed ≡ Some (D.faults self.new.disk)) × (self.new.rest ≡ Some prepared.entry) }
+        ensures any_moment { AddsOnly D.since D.clock self.old.disk self.new.disk (HasAtLeast (entries_of self.new.entries ++ option_to_list self.new.rest) (length self.old.entries)) }
+        ensures durable { IfOk result (λ told. (c : List ℕ) → D.since self.new.disk (D.clock self.new.disk) c → HasAtLeast (entries_of self.new.entries) told.position c) }
+        ensures crash { HasCrash D.since D.clock self.new }
     {
         let Ok(payload) = spell_with_room(alloc, prepared.entry(), &mut self.entries) else {
             return Err(SubmitFault::Refused {
@@ -147,11 +172,16 @@ impl<D: Disk> Device<D> {
                 let position = self.entries.len() as u64;
                 Ok(Told { position, answer })
             }
-            Err(AppendFault::Full { length }) => Err(SubmitFault::Full { length }),
-            Err(AppendFault::Failed { faults }) => Err(SubmitFault::Failed { faults }),
+            Err(AppendFault::Full { length }) => {
+                discard(prepared);
+                Err(SubmitFault::Full { length })
+            }
+            Err(AppendFault::Failed { faults }) => {
+                discard(prepared);
+                Err(SubmitFault::Failed { faults })
+            }
             Err(AppendFault::DiskFault) => {
-                let Prepared { entry, change: _ } = prepared;
-                self.rest = Some(entry);
+                keep_rest(&mut self.rest, prepared);
                 Err(SubmitFault::DiskFault)
             }
         }
@@ -170,7 +200,7 @@ impl<D: Disk> Device<D> {
         journal.into_disk()
     }
 
-    /// What a query is answered on the device's state.
+    /// The answer to a query on the device's state, with the number of entries behind which it holds.
     pub fn ask(&self, query: Query) -> Told
         ensures position { result.position ≡ length self.now.entries }
         ensures answer { result.answer ≡ answer_to self.now.state query }
@@ -196,6 +226,8 @@ impl<D: Disk> Device<D> {
         ensures start { result.1.start ≡ initial }
         ensures entries { result.1.entries ≡ self.entries }
         ensures legal { replay initial (entries_of self.entries) ≡ Some self.state }
+        ensures rest { IsLegal initial (entries_of self.entries ++ option_to_list self.rest) }
+        ensures crash { Crash D.since D.clock result.0 self.opened self.found result.1.entries (option_to_list self.rest) }
     {
         let Device {
             journal,

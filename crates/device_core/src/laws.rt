@@ -1,9 +1,10 @@
-ghost use Rattle.std.specs.Prelude.{List, ℕ, Ok, Err};
+// What holds of every image, as the contract of a function that does nothing.
+ghost use Rattle.std.specs.Prelude.{◌≡◌, List, ℕ, Result};
 ghost use Rattle.entry_form.specs.declared.entry.Entry.{Entry};
 ghost use Rattle.device_journal.specs.declared.fault.OpenFault.{OpenFault};
-ghost use Rattle.device_core.specs.Faults.{ReadsAs};
+ghost use Rattle.device_core.specs.Images.{ReadsAs};
 
-/// An image stands for a legal list of entries, or something is wrong with it, and not both.
-pub fn an_image_has_one_reading()
-    ensures { (image : List ℕ) (found : List Entry) (fault : OpenFault) → ReadsAs image (Ok found) → ReadsAs image (Err fault) → ⊥ }
+/// A law of the definitions: an image reads as one list of entries, or has one thing wrong with it.
+pub fn an_image_reads_as_one_thing()
+    ensures { (image : List ℕ) (one other : Result (List Entry) OpenFault) → ReadsAs image one → ReadsAs image other → one ≡ other }
 {}

@@ -18,7 +18,7 @@ pub use answer::{Answer, Query, Settings};
 pub use device::Device;
 pub use device_journal::OpenFault;
 pub use fault::{SubmitFault, Told};
-pub use laws::an_image_has_one_reading;
+pub use laws::an_image_reads_as_one_thing;
 pub use refused::{Refused, Which};
 pub use state::State;
 pub use step::{Change, Prepared, apply, begin, decide, is_opening};

@@ -4,10 +4,10 @@ ghost use Rattle.std.specs.List.{AllByRecursion};
 ghost use Rattle.device_journal.specs.declared.fault.OpenFault.TheVariants.{NoMemory as Starved};
 ghost use Rattle.entry_codec.specs.Spelling.{Fits, spelling};
 ghost use Rattle.device_core.specs.Images.{IsOffSpelling};
-ghost use Rattle.device_core.specs.Replay.{IsUnread, IsSpelledBy, IsReadFault, IsStepFault, IsReplayFault, IsRecoverFault, marked_at};
+ghost use Rattle.device_core.specs.Replay.{IsUnread, IsSpelledBy, IsReadFault, IsStepFault, IsReplayFault, IsRecoverFault};
 ghost use Rattle.device_core.specs.State.{initial};
 ghost use Rattle.device_core.specs.Step.{Prepares, IsRefused};
-ghost use Rattle.device_core.specs.Trail.{entries_of, replay, state_after};
+ghost use Rattle.device_core.specs.Trail.{entries_of, marked_at, replay, state_after};
 
 use crate::refused::Refused;
 use crate::state::State;

@@ -2,7 +2,8 @@ use crate::state::State;
 use entry_form::Entry;
 use field_text::Items;
 
-/// An entry with the moment of the disk since which it lasts.
+/// An entry with the moment of the disk since which a crash leaves it: for an entry that opening found the moment after
+/// opening's first sync.
 #[derive(Debug, Drop)]
 pub struct Marked {
     pub entry: Entry,

@@ -1,18 +1,18 @@
 -- The columns of a header: places of names, and names taken once.
-use Rattle.std.proofs.Common.{◌≡◌, ◌≢◌, ℕ, zero, suc, ◌+◌, ◌<◌, ◌≤◌, ◌&&◌, ◌||◌, ◌==◌, nat_lt, not, Bool, true, false, true≢false, if◌then◌else◌, List, [], ◌∷◌, ◌++◌, length, map, filter, take, drop, position, get_or, Option, Some, None, unwrap_or, slice_get, Bor, arith, add-one, append_assoc, ap, sym, subst, refl, inl, inr, ◌∙◌, zero-add}
+use Rattle.std.proofs.Common.{◌≡◌, ◌≢◌, ℕ, suc, ◌+◌, ◌<◌, ◌&&◌, nat_lt, not, Bool, true, false, true≢false, List, [], ◌∷◌, ◌++◌, length, map, filter, take, drop, position, get_or, Some, unwrap_or, slice_get, Bor, arith, add-one, append_assoc, ap, sym, subst, refl, inl, inr, ◌∙◌}
 use Rattle.std.proofs.lemmas.Bool.{ltb-true, lt-ltb}
 use Rattle.std.proofs.Math.Seq.{drop-cons, take-suc}
 use Rattle.std.proofs.lemmas.List.Folds.{list_all_at}
 use Rattle.std.specs.List.{list_all, list_any, position_or_len}
 use Rattle.std.specs.Str.{bytes_eq, is_utf8}
 use Rattle.std.proofs.lemmas.Bool.{cases_Bool}
-use Rattle.std.proofs.lemmas.List.{append-nil, get_or-map, length-take-le, take-append-drop}
+use Rattle.std.proofs.lemmas.List.{append-nil, get_or-map, length-map, length-take-le, take-append-drop}
 use Rattle.std.proofs.lemmas.List.Elements.{filter-append}
 use Rattle.std.proofs.lemmas.Option.{slice_get-map, unwrap_or-slice_get}
-use Rattle.std.proofs.lemmas.Slice.Eq.{bytes_eq-Decides}
 use Rattle.entity_lists.specs.CsvRecords.{contents}
 use Rattle.entity_lists.specs.ServerRows.{column_place, field_at_place, field_under, first_of_each, is_property}
 use Rattle.entity_lists.specs.declared.server_rows.PropColumn.{PropColumn}
+use Rattle.entity_lists.proofs.FirstLemmas.{any_first_by, any_passing, eq_self, first_by-push, if_new, if_passes}
 
 -- ---- places
 
@@ -20,12 +20,8 @@ pub position_or_len-map : {X Y : Type 0} (p : Y → Bool) (f : X → Y) (xs : Li
 position_or_len-map p f [] = refl
 position_or_len-map p f (x ∷ xs) = rw (position_or_len-map p f xs) refl
 
-pub length-mapped : {X Y : Type 0} (f : X → Y) (xs : List X) → length (map f xs) ≡ length xs
-length-mapped f [] = refl
-length-mapped f (x ∷ xs) = ap (λ n. suc n) (length-mapped f xs)
-
 pub position-map : {X Y : Type 0} (p : Y → Bool) (f : X → Y) (xs : List X) → position p (map f xs) ≡ position (λ x. p (f x)) xs
-position-map p f xs = rw (position_or_len-map p f xs, length-mapped f xs) refl
+position-map p f xs = rw (position_or_len-map p f xs, length-map xs f) refl
 
 -- the first of the elements that passes stands behind those that don't
 pub first_place : {X : Type 0} (p : X → Bool) (xs : List X) (y : X) (ys : List X) → list_any p xs ≡ false → p y ≡ true → position_or_len p (xs ++ y ∷ ys) ≡ length xs
@@ -37,68 +33,10 @@ first_place p (x ∷ xs) y ys none here = elim (cases_Bool (p x)) [
 
 -- ---- names taken once
 
-same_text : (a b : List ℕ) → bytes_eq a b ≡ true → a ≡ b
-same_text a b e = (bytes_eq-Decides a b).0 e
-
-eq_self : (a : List ℕ) → bytes_eq a a ≡ true
-eq_self a = (bytes_eq-Decides a a).1 refl
-
--- what is equal to a name passes a test as the name does
-pub any_passing : (p : List ℕ → Bool) (name : List ℕ) (xs : List (List ℕ)) → p name ≡ true
-    → list_any (λ y. bytes_eq y name) (filter p xs) ≡ list_any (λ y. bytes_eq y name) xs
-any_passing p name [] passes = refl
-any_passing p name (x ∷ xs) passes = elim (cases_Bool (bytes_eq x name)) [
-  | inl e ↦
-      let px : p x ≡ true = ap p (same_text x name e) ∙ passes in
-      rw (px, e) refl
-  | inr e ↦ elim (cases_Bool (p x)) [
-    | inl px ↦ rw (px, e) (any_passing p name xs passes)
-    | inr px ↦ rw (px, e) (any_passing p name xs passes)
-  ]
-]
-
-pub any_first_of_each : (name : List ℕ) (xs : List (List ℕ)) → list_any (λ y. bytes_eq y name) (first_of_each xs) ≡ list_any (λ y. bytes_eq y name) xs
-any_first_of_each name [] = refl
-any_first_of_each name (x ∷ xs) = elim (cases_Bool (bytes_eq x name)) [
-  | inl e ↦ rw e refl
-  | inr e ↦
-      let other : bytes_eq name x ≡ false = elim (cases_Bool (bytes_eq name x)) [
-        | inl f ↦ absurd (true≢false (sym (ap (λ a. bytes_eq a name) (sym (same_text name x f)) ∙ eq_self name) ∙ e))
-        | inr f ↦ f
-      ] in
-      let passes : not (bytes_eq name x) ≡ true = rw other refl in
-      rw e (any_passing (λ o. not (bytes_eq o x)) name (first_of_each xs) passes ∙ any_first_of_each name xs)
-]
-
-abbrev pub if_new : Bool → List ℕ → List (List ℕ)
-if_new taken name = if taken then [] else name ∷ []
-
-pub first_of_each-push : (xs : List (List ℕ)) (x : List ℕ) → first_of_each (xs ++ x ∷ []) ≡ first_of_each xs ++ if_new (list_any (λ y. bytes_eq y x) (first_of_each xs)) x
-first_of_each-push [] x = refl
-first_of_each-push (a ∷ xs) x =
-    let rest = first_of_each xs in
-    let taken = list_any (λ y. bytes_eq y x) rest in
-    let others = λ (o : List ℕ). not (bytes_eq o a) in
-    let ih = first_of_each-push xs x in
-    elim (cases_Bool (bytes_eq a x)) [
-      | inl e ↦
-          let same : bytes_eq x a ≡ true = ap (λ b. bytes_eq x b) (same_text a x e) ∙ eq_self x in
-          let gone : filter others (if_new taken x) ≡ [] = elim taken as (λ b. filter others (if_new b x) ≡ []) [ true ↦ refl | false ↦ rw same refl ] in
-          rw (e, ih, filter-append, gone) refl
-      | inr e ↦
-          let other : bytes_eq x a ≡ false = elim (cases_Bool (bytes_eq x a)) [
-            | inl f ↦ absurd (true≢false (sym (ap (λ b. bytes_eq a b) (same_text x a f) ∙ eq_self a) ∙ e))
-            | inr f ↦ f
-          ] in
-          let passes : others x ≡ true = rw other refl in
-          let kept : filter others (if_new taken x) ≡ if_new taken x = elim taken as (λ b. filter others (if_new b x) ≡ if_new b x) [ true ↦ refl | false ↦ rw other refl ] in
-          rw (e, ih, filter-append, kept, any_passing others x rest passes) refl
-    ]
+abbrev itself : List ℕ → List ℕ
+itself name = name
 
 -- the names that pass a test, when one more column is read
-abbrev pub if_passes : Bool → List ℕ → List (List ℕ)
-if_passes new name = if new then name ∷ [] else []
-
 pub next_names : (p : List ℕ → Bool) (xs : List (List ℕ)) (x : List ℕ) → filter p (first_of_each (xs ++ x ∷ []))
     ≡ filter p (first_of_each xs) ++ if_passes (p x && not (list_any (λ y. bytes_eq y x) (filter p (first_of_each xs)))) x
 next_names p xs x =
@@ -107,10 +45,10 @@ next_names p xs x =
     elim (cases_Bool (p x)) [
       | inl e ↦
           let same : filter p (if_new taken x) ≡ if_passes (not taken) x = elim taken as (λ b. filter p (if_new b x) ≡ if_passes (not b) x) [ true ↦ refl | false ↦ rw e refl ] in
-          rw (first_of_each-push xs x, filter-append, same, e, any_passing p x found e) refl
+          rw (first_by-push itself xs x, filter-append, same, e, any_passing itself p x found e) refl
       | inr e ↦
           let gone : filter p (if_new taken x) ≡ [] = elim taken as (λ b. filter p (if_new b x) ≡ []) [ true ↦ refl | false ↦ rw e refl ] in
-          rw (first_of_each-push xs x, filter-append, gone, e) refl
+          rw (first_by-push itself xs x, filter-append, gone, e) refl
     ]
 
 -- more columns give more names behind those that there are
@@ -149,7 +87,7 @@ pub contents_at : (slices : List (Bor (List ℕ))) (i : ℕ) (d : Bor (List ℕ)
 contents_at slices i d small = get_or-map (λ (b : Bor (List ℕ)). b.now) slices i d [] small
 
 pub length-contents : (slices : List (Bor (List ℕ))) → length (contents slices) ≡ length slices
-length-contents slices = length-mapped (λ (b : Bor (List ℕ)). b.now) slices
+length-contents slices = length-map slices (λ (b : Bor (List ℕ)). b.now)
 
 -- one column more
 pub taken_more : (header : List (Bor (List ℕ))) (i : ℕ) (d : Bor (List ℕ)) → i < length header
@@ -186,7 +124,7 @@ new_place header columns i d small names is_new =
     let test = λ (y : List ℕ). bytes_eq y x in
     let is = both_true (is_property x) (list_any (λ (p : PropColumn). bytes_eq p.name x) columns) (sym is_new) in
     let unseen : list_any test (take i all) ≡ false =
-    sym (any_first_of_each x (take i all)) ∙ sym (any_passing is_property x (first_of_each (take i all)) is.0) ∙ ap (list_any test) (sym names) ∙ list_any-map test (λ (p : PropColumn). p.name) columns ∙ is.1 in
+    sym (any_first_by itself x (take i all)) ∙ sym (any_passing itself is_property x (first_of_each (take i all)) is.0) ∙ ap (list_any test) (sym names) ∙ list_any-map test (λ (p : PropColumn). p.name) columns ∙ is.1 in
     let long : i < length all = omega (arith, length-contents header) in
     let parts : all ≡ take i all ++ x ∷ drop (suc i) all =
     sym (take-append-drop i all) ∙ ap (λ (t : List (List ℕ)). take i all ++ t) (drop-cons all i [] long ∙ ap (λ (y : List ℕ). y ∷ drop (suc i) all) (contents_at header i d small)) in

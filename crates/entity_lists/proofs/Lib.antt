@@ -1,4 +1,5 @@
 pub mod AllRecords
 pub mod ColumnLemmas
+pub mod FirstLemmas
 pub mod RowLemmas
 pub mod TableLemmas

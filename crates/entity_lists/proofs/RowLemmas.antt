@@ -1,16 +1,16 @@
 -- Rows in their order: the first fault among them, and the rows that name an entity.
-use Rattle.std.proofs.Common.{◌≡◌, ℕ, zero, suc, ◌+◌, ◌<◌, ◌≤◌, ◌==◌, nat_lt, Bool, true, false, true≢false, if◌then◌else◌, codes, List, [], ◌∷◌, ◌++◌, length, map, filter, take, drop, get_or, Option, Some, None, Bor, arith, add-one, ap, sym, subst, refl, inl, inr, ◌∙◌}
+use Rattle.std.proofs.Common.{◌≡◌, ℕ, suc, ◌+◌, ◌<◌, ◌≤◌, nat_lt, true, false, codes, List, [], ◌∷◌, ◌++◌, length, map, filter, take, drop, get_or, Option, Some, None, arith, add-one, ap, sym, refl, inl, inr, ◌∙◌}
 use Rattle.std.specs.Option.{option_or}
 use Rattle.std.specs.List.{list_all}
 use Rattle.std.specs.Str.{is_utf8}
 use Rattle.std.proofs.lemmas.Bool.{cases_Bool, eq-eqb, lt-ltb, ltb-true}
-use Rattle.std.proofs.lemmas.List.{append-nil, length-take-le, map-append, take-append-drop}
+use Rattle.std.proofs.lemmas.List.{length-take-le, map-append, take-append-drop}
 use Rattle.std.proofs.lemmas.List.Elements.{filter-append}
 use Rattle.std.proofs.Math.Seq.{drop-cons, take-suc}
 use Rattle.entity_lists.specs.ServerRows.{field_under, is_named, row_fault, row_limit, rows_fault, server_row, version_in}
-use Rattle.entity_lists.specs.declared.entities.ServerRow.{ServerRow}
 use Rattle.entity_lists.specs.declared.server_rows.CsvRefused.{CsvRefused}
 use Rattle.entity_lists.specs.declared.server_rows.CsvRefused.TheVariants.{TooMany}
+use Rattle.entity_lists.proofs.FirstLemmas.{if_passes}
 
 -- a row as long as the header, all of it text, with a version
 pub no_row_fault : (header fields : List (List ℕ)) (row version : ℕ) → length fields ≡ length header → list_all is_utf8 fields ≡ true
@@ -62,11 +62,8 @@ row_taken header rows i small none few is =
     let step : take (i + 1) rows ≡ take i rows ++ get_or rows i [] ∷ [] = rw (add-one i) (take-suc rows i [] small) in
     ap (rows_fault header 1) step ∙ rows_fault-append header 1 (i + 1) (take i rows) (get_or rows i [] ∷ []) (omega (arith, length-take-le i rows (omega arith))) none ∙ rw (not_past (i + 1) few, is) refl
 
-abbrev pub if_named : Bool → ServerRow → List ServerRow
-if_named named row = if named then row ∷ [] else []
-
 pub named_step : (header : List (List ℕ)) (rows : List (List (List ℕ))) (i : ℕ) → i < length rows
-    → filter is_named (map (server_row header) (take (i + 1) rows)) ≡ filter is_named (map (server_row header) (take i rows)) ++ if_named (is_named (server_row header (get_or rows i []))) (server_row header (get_or rows i []))
+    → filter is_named (map (server_row header) (take (i + 1) rows)) ≡ filter is_named (map (server_row header) (take i rows)) ++ if_passes (is_named (server_row header (get_or rows i []))) (server_row header (get_or rows i []))
 named_step header rows i small =
     let step : take (i + 1) rows ≡ take i rows ++ get_or rows i [] ∷ [] = rw (add-one i) (take-suc rows i [] small) in
     ap (λ (t : List (List (List ℕ))). filter is_named (map (server_row header) t)) step

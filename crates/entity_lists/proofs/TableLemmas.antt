@@ -1,8 +1,9 @@
 -- Look-ups in mapped lists, and cells by their columns.
-use Rattle.std.proofs.Common.{◌≡◌, ◌≢◌, ℕ, Bool, true, false, if◌then◌else◌, List, [], ◌∷◌, map, find, length, slice_get, Option, Some, None, ap, sym, refl, inl, inr, ◌∙◌}
+use Rattle.std.proofs.Common.{◌≡◌, ◌≢◌, ℕ, Bool, List, [], ◌∷◌, map, find, length, slice_get, Option, Some, None, ap, refl, inl, inr, ◌∙◌}
 use Rattle.std.specs.Option.{option_map, option_map_or}
 use Rattle.std.specs.Str.{bytes_eq}
 use Rattle.std.proofs.lemmas.Bool.{cases_Bool}
+use Rattle.std.proofs.lemmas.List.{length-map}
 use Rattle.std.proofs.lemmas.Slice.Eq.{bytes_eq-Decides}
 use Rattle.std.proofs.lemmas.Option.{slice_get-map}
 use Rattle.field_text.specs.Tables.{NamedCell, NamedTable, cell_text, row_count, table_rows, text_in}
@@ -10,7 +11,6 @@ use Rattle.entity_lists.specs.EntityTables.{entity_cells, list_table, prop_cell,
 use Rattle.entity_lists.specs.declared.entities.Prop.{Prop}
 use Rattle.entity_lists.specs.declared.entities.EntityRow.{EntityRow}
 use Rattle.entity_lists.specs.declared.entities.EntityList.{EntityList}
-use Rattle.entity_lists.proofs.ColumnLemmas.{length-mapped}
 
 pub find-map : {X Y : Type 0} (p : Y → Bool) (f : X → Y) (xs : List X) → find p (map f xs) ≡ option_map f (find (λ x. p (f x)) xs)
 find-map p f [] = refl
@@ -66,7 +66,7 @@ cell_text-none lists name row column is =
 
 pub row_count-list : (lists : List EntityList) (name : List ℕ) (list : EntityList) → find (λ (l : EntityList). bytes_eq l.name name) lists ≡ Some list
     → row_count (tables_of lists) name ≡ length list.rows
-row_count-list lists name list is = ap length (table_rows-lists lists name (Some list) is) ∙ length-mapped entity_cells list.rows
+row_count-list lists name list is = ap length (table_rows-lists lists name (Some list) is) ∙ length-map list.rows entity_cells
 
 pub row_count-none : (lists : List EntityList) (name : List ℕ) → find (λ (l : EntityList). bytes_eq l.name name) lists ≡ None → row_count (tables_of lists) name ≡ 0
 row_count-none lists name is = ap length (table_rows-lists lists name None is)

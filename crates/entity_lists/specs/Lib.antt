@@ -1,3 +1,4 @@
 pub mod CsvRecords
 pub mod EntityTables
+pub mod FirstBy
 pub mod ServerRows

@@ -7,6 +7,7 @@ use Rattle.std.specs.Fmt.{decimal}
 use Rattle.std.specs.Str.{bytes_eq, is_utf8}
 use Rattle.std.specs.Str.Parse.{digits_value}
 use Rattle.entity_lists.specs.CsvRecords.{records_of}
+use Rattle.entity_lists.specs.FirstBy.{first_by}
 use Rattle.entity_lists.specs.declared.entities.Prop.{Prop}
 use Rattle.entity_lists.specs.declared.entities.ServerRow.{ServerRow}
 use Rattle.entity_lists.specs.declared.server_rows.CsvRefused.{CsvRefused}
@@ -50,8 +51,7 @@ is_property name = not (bytes_eq name (codes "name") || bytes_eq name (codes "la
 
 -- the names of some columns, each once, where it stands first
 abbrev pub first_of_each : List (List ℕ) → List (List ℕ)
-first_of_each [] = []
-first_of_each (name ∷ names) = name ∷ filter (λ other. not (bytes_eq other name)) (first_of_each names)
+first_of_each names = first_by (λ name. name) names
 
 abbrev pub property_names : List (List ℕ) → List (List ℕ)
 property_names header = take property_limit (filter is_property (first_of_each header))

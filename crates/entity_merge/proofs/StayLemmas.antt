@@ -1,11 +1,11 @@
 -- Local rows that a merge doesn't lose.
-use Rattle.std.proofs.Common.{◌≡◌, ◌≢◌, ℕ, zero, suc, ◌+◌, ◌<◌, ◌≤◌, ◌&&◌, ◌||◌, ◌==◌, not, nat_lt, Bool, true, false, true≢false, if◌then◌else◌, All, Contains, List, [], ◌∷◌, ◌++◌, length, map, filter, get_or, Option, Some, None, is_none, arith, ap, sym, subst, refl, inl, inr, ◌∙◌}
+use Rattle.std.proofs.Common.{◌≡◌, ℕ, suc, ◌<◌, ◌==◌, nat_lt, false, if◌then◌else◌, All, Contains, List, [], ◌∷◌, get_or, Option, Some, None, arith, ap, sym, subst, refl, inl, inr, ◌∙◌}
 use Rattle.std.specs.List.{cons_option, filter_map}
 use Rattle.std.proofs.lemmas.Bool.{cases_Bool, eqb-true, ltb-true}
 use Rattle.std.proofs.lemmas.List.Elements.{All-cons, All-nil, Contains-append_left}
 use Rattle.entity_lists.specs.declared.entities.EntityRow.{EntityRow}
 use Rattle.entity_lists.specs.declared.entities.ServerRow.{ServerRow}
-use Rattle.entity_merge.specs.Merging.{NewerStay, OfflineStay, drawing_rows, first_rows, fresh_branch, is_trunk, local_row, merged_row, merged_rows, seen_row, server_row, server_wins, taken_row, unseen_row}
+use Rattle.entity_merge.specs.Merging.{NewerStay, OfflineStay, drawing_rows, fresh_branch, merged_row, merged_rows, seen_row, server_row, server_wins, taken_row, unseen_row}
 
 later : (o : Option EntityRow) (rest : List EntityRow) (r : EntityRow) → Contains rest r → Contains (cons_option o rest) r
 later None rest r h = h

@@ -1,8 +1,9 @@
 -- What becomes of a local entity list when the server's is merged into it.
-use Rattle.std.specs.Prelude.{All, Contains, ◌≡◌, ◌<◌, ℕ, ◌+◌, ◌==◌, ◌&&◌, ◌||◌, not, nat_lt, Bool, true, false, if◌then◌else◌, List, [], ◌∷◌, ◌++◌, length, map, filter, find, position, Option, Some, None, is_none, unwrap_or}
+use Rattle.std.specs.Prelude.{All, Contains, ◌≡◌, ◌<◌, ℕ, ◌+◌, ◌==◌, ◌&&◌, ◌||◌, not, nat_lt, Bool, true, false, if◌then◌else◌, List, [], ◌++◌, map, filter, find, position, Option, Some, None, is_none, unwrap_or}
 use Rattle.std.specs.List.{filter_map}
 use denote.Ref.{Bor}
 use Rattle.std.specs.Str.{bytes_eq}
+use Rattle.entity_lists.specs.FirstBy.{first_by}
 use Rattle.entity_lists.specs.declared.entities.EntityRow.{EntityRow}
 use Rattle.entity_lists.specs.declared.entities.ServerRow.{ServerRow}
 use Rattle.field_ids.specs.Ids.{id_of, text_of_id}
@@ -20,8 +21,7 @@ server_row rows id = find (λ s. bytes_eq s.id id) rows
 
 -- of each id the first row counts
 abbrev pub first_rows : List ServerRow → List ServerRow
-first_rows [] = []
-first_rows (s ∷ rows) = s ∷ filter (λ other. not (bytes_eq other.id s.id)) (first_rows rows)
+first_rows rows = first_by (λ s. s.id) rows
 
 -- ---- which values win
 

@@ -4,7 +4,7 @@ ghost use Rattle.std.specs.Str.{bytes_eq};
 ghost use Rattle.field_ids.specs.Ids.{id_of, text_of_id};
 ghost use Rattle.entity_merge.specs.Actions.{acted_rows, action_fault, created_row, is_at_end, put_prop, row_after, updated_row, version_limit};
 
-use crate::copies::{copy_props, copy_row, copy_url};
+use crate::copies::{copy_prop, copy_props, copy_row, copy_url};
 use entity_lists::{EntityList, EntityRow, Prop, ROW_LIMIT};
 use field_ids::{Draws, draw};
 use field_text::{Items, NoMemory, Text};
@@ -76,10 +76,7 @@ fn place_of(props: &[Prop], name: &Text) -> Option<usize>
 fn put(alloc: Global, props: &mut Items<Prop>, new: &Prop) -> Result<(), NoMemory>
     ensures { OnOk result (props.new ≡ put_prop props.old new.now) }
 {
-    let copy = Prop {
-        name: new.name.copy(alloc)?,
-        value: new.value.copy(alloc)?,
-    };
+    let copy = copy_prop(alloc, new)?;
     match place_of(props.as_slice(), &new.name) {
         Some(place) => props.set(place, copy),
         None => props.push(copy)?,
@@ -188,7 +185,7 @@ fn created_rows(
     Ok(created)
 }
 
-// The rows after an action, and how many draws it takes.
+// The rows after an action.
 fn rows_after(
     alloc: Global,
     action: &Action,

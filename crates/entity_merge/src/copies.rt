@@ -4,15 +4,21 @@ use entity_lists::{EntityRow, Prop};
 use field_text::{Items, NoMemory, Text};
 use std::alloc::Global;
 
+pub(crate) fn copy_prop(alloc: Global, prop: &Prop) -> Result<Prop, NoMemory>
+    ensures { IfOk result (λ copy. copy ≡ prop.now) }
+{
+    Ok(Prop {
+        name: prop.name.copy(alloc)?,
+        value: prop.value.copy(alloc)?,
+    })
+}
+
 pub(crate) fn copy_props(alloc: Global, props: &[Prop]) -> Result<Items<Prop>, NoMemory>
     ensures { IfOk result (λ copy. copy ≡ props.now) }
 {
     let mut copy = Vec::new(alloc);
     for prop in props {
-        copy.push(Prop {
-            name: prop.name.copy(alloc)?,
-            value: prop.value.copy(alloc)?,
-        })?;
+        copy.push(copy_prop(alloc, prop)?)?;
     }
     Ok(Items::from_vec(copy))
 }

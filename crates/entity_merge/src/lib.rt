@@ -4,6 +4,8 @@
 mod actions;
 mod copies;
 mod merging;
+#[cfg(test)]
+mod tests;
 
 pub use actions::{Action, ActionRefused, apply_action};
 pub use merging::{MergeRefused, merge};

@@ -3,7 +3,7 @@ ghost use Rattle.std.specs.List.{filter_map, list_any};
 ghost use Rattle.std.specs.Option.{option_copied};
 ghost use Rattle.std.specs.Str.{bytes_eq};
 ghost use Rattle.entity_lists.specs.ServerRows.{row_limit};
-ghost use Rattle.entity_merge.specs.Merging.{NewerStay, OfflineStay, contents, draws_branch, drawing_rows, first_rows, fresh_branch, is_trunk, local_row, merged_row, merged_rows, seen_row, server_row, server_wins, taken_row, unseen_row};
+ghost use Rattle.entity_merge.specs.Merging.{NewerStay, OfflineStay, contents, draws_branch, drawing_rows, fresh_branch, is_trunk, local_row, merged_row, merged_rows, seen_row, server_row, server_wins, taken_row, unseen_row};
 
 use crate::copies::{copy_props, copy_row, copy_url};
 use entity_lists::{EntityList, EntityRow, ROW_LIMIT, ServerRow};
@@ -90,11 +90,10 @@ fn draws_here(locals: &[EntityRow], before: &[ServerRow], row: &ServerRow) -> bo
     !is_among(before, &row.id) && starts_branch(locals, row)
 }
 
-// Whether a row behind these is the first of its id, which no local row has.
-fn is_new_here(locals: &[EntityRow], before: &[ServerRow], row: &ServerRow) -> bool
-    ensures { result ≡ (not (list_any (λ s. bytes_eq s.id row.now.id) before.now) && is_none (local_row locals.now row.now.id)) }
+fn is_unknown(locals: &[EntityRow], row: &ServerRow) -> bool
+    ensures { result ≡ is_none (local_row locals.now row.now.id) }
 {
-    !is_among(before, &row.id) && local_of(locals, &row.id).is_none()
+    local_of(locals, &row.id).is_none()
 }
 
 // The rows that start a branch.
@@ -219,21 +218,19 @@ fn kept_rows(
     Ok(kept)
 }
 
-// The server's rows that the local list lacks, in their order.
+// The rows that the local list lacks, in their order: each of them starts a branch.
 fn new_rows(
     alloc: Global,
     locals: &[EntityRow],
-    rows: &[ServerRow],
     drawing: &[&ServerRow],
     draws: Draws,
 ) -> Result<Vec<EntityRow>, NoMemory>
-    requires room { draws.next + length rows.now ≤ 2 ^ 62 }
-    requires rooms { draws.next + length drawing.now ≤ 2 ^ 62 }
-    ensures { IfOk result (λ v. v.items ≡ map (λ s. taken_row s (fresh_branch (contents drawing.now) draws.device draws.next s.id)) (filter (λ s. is_none (local_row locals.now s.id)) (first_rows rows.now))) }
+    requires { draws.next + length drawing.now ≤ 2 ^ 62 }
+    ensures { IfOk result (λ v. v.items ≡ map (λ s. taken_row s (fresh_branch (contents drawing.now) draws.device draws.next s.id)) (filter (λ s. is_none (local_row locals.now s.id)) (contents drawing.now))) }
 {
     let mut new = Vec::new(alloc);
-    for (place, row) in rows.iter().enumerate() {
-        if is_new_here(locals, &rows[..place], row) {
+    for row in drawing {
+        if is_unknown(locals, row) {
             new.push(taken(alloc, drawing, draws, row)?)?;
         }
     }
@@ -267,7 +264,7 @@ pub fn merge(
     let locals = list.rows.as_slice();
     let drawing = drawing(alloc, locals, rows)?;
     let mut merged = kept_rows(alloc, locals, rows, drawing.as_slice(), draws)?;
-    let mut new = new_rows(alloc, locals, rows, drawing.as_slice(), draws)?;
+    let mut new = new_rows(alloc, locals, drawing.as_slice(), draws)?;
     merged.append(&mut new)?;
     let count = merged.len() as u64;
     if count > ROW_LIMIT {

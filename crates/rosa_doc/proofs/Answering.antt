@@ -1,5 +1,5 @@
 -- What the reader answers where it stops.
-use Rattle.std.proofs.Common.{◌≡◌, ◌≢◌, ℕ, ◌≤◌, Bool, true, false, cond, List, [], ◌∷◌, ◌++◌, length, Some, None, Result, refl, sym, ap, subst, ◌∙◌, arith, encode_utf8_all, ◌==◌, encode_utf8}
+use Rattle.std.proofs.Common.{◌≡◌, ◌≢◌, ℕ, ◌≤◌, Bool, true, false, cond, List, [], ◌∷◌, ◌++◌, length, Some, None, Result, Ok, Err, refl, sym, ap, subst, ◌∙◌, arith, encode_utf8_all, ◌==◌, encode_utf8}
 use Rattle.std.specs.Prelude.{IfOk, IfErr}
 use Rattle.std.specs.Str.{chars, IsUtf8}
 use Rattle.std.proofs.lemmas.List.{append-nil, length-append}
@@ -15,7 +15,7 @@ use Rattle.rosa_doc.specs.declared.progress.Progress.{Progress}
 use Rattle.rosa_doc.specs.declared.reader.Ending.{Ending}
 use Rattle.rosa_doc.specs.declared.reader.Ending.TheVariants.{Deep, Stuck, End}
 use Rattle.rosa_doc.specs.Documents.{IsDocument, ends_in_return, past_mark, body_of}
-use Rattle.rosa_doc.specs.Refusals.{AreFirst, IsDeep, IsText, IsDoc, IsPlace, Stops, Refuses, opens, is_doctype}
+use Rattle.rosa_doc.specs.Refusals.{AreFirst, IsDeep, IsText, IsDoc, IsPlace, Stops, Refuses, ReadsAs, opens, is_doctype}
 use Rattle.rosa_doc.specs.Machine.{Level, State, Before, Within, After, opened, with_child, step, run, depth_of}
 use Rattle.rosa_doc.specs.Documents.{element_of}
 use Rattle.rosa_doc.specs.Reading.{HasReached, Stopped, state_of, ended_at, refused_before}
@@ -31,7 +31,7 @@ encoded_body (c ∷ cs) =
     let n = length-append (encode_utf8 c) (encode_utf8_all cs) in
     elim (c == 0xFEFF) as (λ b. length (encode_utf8_all (cond b cs (c ∷ cs))) ≤ length (encode_utf8_all (c ∷ cs))) [ true ↦ omega (arith, n) | false ↦ omega arith ]
 
-first_fits : (bytes : List ℕ) (ps : List Piece) (rest : List ℕ) → IsUtf8 bytes → AreFirst ps (body_of bytes) rest → length (encode_utf8_all rest) ≤ length bytes
+pub first_fits : (bytes : List ℕ) (ps : List Piece) (rest : List ℕ) → IsUtf8 bytes → AreFirst ps (body_of bytes) rest → length (encode_utf8_all rest) ≤ length bytes
 first_fits bytes ps rest utf8 h =
     let whole = ap encode_utf8_all h.parts ∙ encodes-append h.spelled rest in
     omega (arith, ap length whole, length-append (encode_utf8_all h.spelled) (encode_utf8_all rest), encoded_body (chars bytes), ap length (encodes-chars bytes utf8))
@@ -75,7 +75,7 @@ deep_is_refused bytes rest at text (s, r, h, d, p, x, w, hp, parts, o) place =
 pub stop_of : (bytes rest : List ℕ) (at : ℕ) (s : State) (r : Bool) (text : IsText bytes) (h : HasReached (body_of bytes) s r rest) → IsStuck s h.pieces rest → IsPlace bytes rest at → Stops bytes at h.pieces rest
 stop_of bytes rest at s r text h stuck place = record { text = text; longest = are_longest h.pieces s (body_of bytes) rest h.first h.runs stuck; shallow = h.shallow; place = place }
 
-before_is_refused : (bytes rest : List ℕ) (at : ℕ) (ps : List Piece) → Stops bytes at ps rest → rest ≢ [] → Refuses bytes (refused_before at rest)
+pub before_is_refused : (bytes rest : List ℕ) (at : ℕ) (ps : List Piece) → Stops bytes at ps rest → rest ≢ [] → Refuses bytes (refused_before at rest)
 before_is_refused bytes rest at ps stops long =
     elim (is_doctype rest) as (λ b. is_doctype rest ≡ b → Refuses bytes (cond b (refusals.HasDoctype at) (refusals.BadMarkup at))) [
       | true ↦ λ e. (ps, rest, stops, e)
@@ -102,31 +102,40 @@ end_is_refused bytes rest at progress text (r, h, none) place long =
 
 -- ---- the end
 
-abbrev Answers : List ℕ → Result Doc DocRefused → Type 0
-Answers bytes r = IfOk r (λ doc. IsDoc bytes doc) × IfErr r (λ refusal. Refuses bytes refusal)
-
 spelled_whole : (ps : List Piece) (cs : List ℕ) → AreFirst ps cs [] → Spelled IsPiece ps cs
 spelled_whole ps cs h = let e : cs ≡ h.spelled = h.parts ∙ append-nil h.spelled in subst (λ (t : List ℕ). Spelled IsPiece ps t) (sym e) h.spells
 
 not_after : (ps : List Piece) (s : State) → run ps Before false ≡ Some s → ((root : Element) → s ≡ After root → ⊥) → (root : Element) → IsDocument ps root → ⊥
 not_after ps s e other root h = other root (let both : Some s ≡ Some (After root) = sym e ∙ document_runs ps root h in cc)
 
-ended_answers_by : (bytes : List ℕ) (at : ℕ) (s : State) (r : Bool) → IsText bytes → (h : HasReached (body_of bytes) s r []) → Stops bytes at h.pieces [] → Answers bytes (ended_at s at)
-ended_answers_by bytes at Before r text h stops = (tt, (h.pieces, stops, not_after h.pieces Before h.runs (λ root e. absurd (before_is_not root e))))
+unclosed_is_told : (at : ℕ) → refusals.Unclosed at ≢ refusals.NoMemory
+unclosed_is_told at e = absurd cc
+
+-- where no piece can follow at the end
+pub ended_reading : (bytes : List ℕ) (at : ℕ) (s : State) (r : Bool) → IsText bytes → (h : HasReached (body_of bytes) s r []) → Stops bytes at h.pieces [] → ReadsAs bytes (ended_at s at)
+ended_reading bytes at Before r text h stops = ((h.pieces, stops, not_after h.pieces Before h.runs (λ root e. absurd (before_is_not root e))), unclosed_is_told at)
   where
     before_is_not : (root : Element) → Before ≡ After root → ⊥
     before_is_not root e = absurd cc
-ended_answers_by bytes at (Within top outer) r text h stops = (tt, (h.pieces, stops, not_after h.pieces (Within top outer) h.runs (λ root e. absurd (within_is_not top outer root e))))
+ended_reading bytes at (Within top outer) r text h stops = ((h.pieces, stops, not_after h.pieces (Within top outer) h.runs (λ root e. absurd (within_is_not top outer root e))), unclosed_is_told at)
   where
     within_is_not : (top : Level) (outer : List Level) (root : Element) → Within top outer ≡ After root → ⊥
     within_is_not top outer root e = absurd cc
-ended_answers_by bytes at (After root) r text h stops = (record { pieces = h.pieces; text = text; spells = spelled_whole h.pieces (body_of bytes) h.first; shallow = h.shallow; document = after_is_document h.pieces root h.runs }, tt)
+ended_reading bytes at (After root) r text h stops = record { pieces = h.pieces; text = text; spells = spelled_whole h.pieces (body_of bytes) h.first; shallow = h.shallow; document = after_is_document h.pieces root h.runs }
+
+abbrev Answers : List ℕ → Result Doc DocRefused → Type 0
+Answers bytes r = IfOk r (λ doc. IsDoc bytes doc) × IfErr r (λ refusal. Refuses bytes refusal)
+
+answers_of : (bytes : List ℕ) (r : Result Doc DocRefused) → ReadsAs bytes r → Answers bytes r
+answers_of bytes (Ok doc) h = (h, tt)
+answers_of bytes (Err refusal) h = (tt, h.0)
 
 pub ended_answers : (bytes : List ℕ) (at : ℕ) (progress : Progress) (rest : List ℕ) → IsText bytes → Stopped (body_of bytes) (End progress) rest → IsPlace bytes rest at → rest ≡ [] → Answers bytes (ended_at (state_of progress) at)
 ended_answers bytes at progress rest text h place e =
     let h' = subst (λ (t : List ℕ). Stopped (body_of bytes) (End progress) t) e h in
     let place' = subst (λ (t : List ℕ). IsPlace bytes t at) e place in
-    ended_answers_by bytes at (state_of progress) h'.0 text h'.1 (stop_of bytes [] at (state_of progress) h'.0 text h'.1 (λ p x w hp whole. absurd (h'.2 p x w hp whole)) place')
+    let stops = stop_of bytes [] at (state_of progress) h'.0 text h'.1 (λ p x w hp whole. absurd (h'.2 p x w hp whole)) place' in
+    answers_of bytes (ended_at (state_of progress) at) (ended_reading bytes at (state_of progress) h'.0 text h'.1 stops)
 
 pub empty_is_nil : (rest : List ℕ) (b : Bool) → b ≡ (length rest == 0) → b ≡ true → rest ≡ []
 empty_is_nil [] b is e = refl

@@ -1,5 +1,5 @@
 -- What is written reads as the text that was given.
-use Rattle.std.proofs.Common.{◌≡◌, ℕ, Bool, true, false, cond, ◌&&◌, ◌==◌, List, [], ◌∷◌, ◌++◌, refl, sym, ap, ◌∙◌, inl, inr, encode_utf8_all, map}
+use Rattle.std.proofs.Common.{◌≡◌, ℕ, Bool, true, false, cond, ◌&&◌, ◌==◌, List, [], ◌∷◌, ◌++◌, refl, sym, ap, subst, ◌∙◌, inl, inr, append_assoc, encode_utf8_all, map}
 use Rattle.std.specs.Char.{encode_utf8}
 use Rattle.std.specs.List.{flat_map}
 use Rattle.std.proofs.lemmas.Bool.{eqb-true}
@@ -10,7 +10,13 @@ use Rattle.rosa_pieces.specs.declared.piece.CharData.{CharData}
 use Rattle.rosa_pieces.specs.declared.piece.CharData.TheVariants.{Literal, Reference}
 use Rattle.rosa_pieces.specs.Pieces.{IsCharData, IsValueChar, is_literal, is_return, read_char, read_value_char, read_value, space_of}
 use Rattle.rosa_pieces.proofs.Steps.{space_is}
-use Rattle.rosa_doc.specs.Escapes.{in_text, in_value, read_text, ReadsAs, ReadsInValue}
+use Rattle.rosa_pieces.specs.Pieces.{Spelled, IsPiece}
+use Rattle.rosa_pieces.specs.declared.piece.Piece.{Piece}
+use Rattle.rosa_pieces.specs.declared.piece.Piece.TheVariants.{Data}
+use Rattle.rosa_doc.specs.declared.tree.Node.{Node}
+use Rattle.rosa_doc.specs.Documents.{IsContent, nothing, character, ends_in_return}
+use Rattle.rosa_doc.specs.Escapes.{in_text, in_value, TextReadsAs, ValueReadsAs}
+use Rattle.rosa_doc.proofs.Runs.{ends_last}
 
 pub record TextChar (c : ℕ) (bytes : List ℕ) : Type 0 where
   pub part : CharData
@@ -118,11 +124,32 @@ value_char c =
       ] refl
     ] refl
 
-pub text_reads : (cs : List ℕ) → ReadsAs (map xml_char_of cs) (flat_map in_text cs)
-text_reads [] = record { parts = []; spelled = []; spells = refl; utf8 = refl; reads = refl }
-text_reads (c ∷ cs) =
+-- ---- whole texts
+
+-- the text that characters and references are, one behind the other
+abbrev pub read_text : Bool → List CharData → List ℕ
+read_text after_return [] = []
+read_text after_return (d ∷ ds) = read_char after_return d ++ read_text (is_return d) ds
+
+record TextParts (text bytes : List ℕ) : Type 0 where
+  parts : List CharData
+  spelled : List ℕ
+  spells : Spelled IsCharData parts spelled
+  utf8 : encode_utf8_all spelled ≡ bytes
+  reads : read_text false parts ≡ text
+
+record ValueParts (text bytes : List ℕ) : Type 0 where
+  parts : List CharData
+  spelled : List ℕ
+  spells : Spelled (IsValueChar 34) parts spelled
+  utf8 : encode_utf8_all spelled ≡ bytes
+  reads : read_value false parts ≡ text
+
+text_parts : (cs : List ℕ) → TextParts (map xml_char_of cs) (flat_map in_text cs)
+text_parts [] = record { parts = []; spelled = []; spells = refl; utf8 = refl; reads = refl }
+text_parts (c ∷ cs) =
     let t = text_char c in
-    let rest = text_reads cs in
+    let rest = text_parts cs in
     record {
       parts = t.part ∷ rest.parts;
       spelled = t.spelled ++ rest.spelled;
@@ -131,15 +158,51 @@ text_reads (c ∷ cs) =
       reads = ap (λ (x : List ℕ). x ++ read_text (is_return t.part) rest.parts) t.reads ∙ ap (λ (b : Bool). xml_char_of c ∷ read_text b rest.parts) t.flag ∙ ap (λ (x : List ℕ). xml_char_of c ∷ x) rest.reads;
     }
 
-pub value_reads : (cs : List ℕ) → ReadsInValue (map xml_char_of cs) (flat_map in_value cs)
-value_reads [] = record { parts = []; spelled = []; spells = refl; utf8 = refl; reads = refl }
-value_reads (c ∷ cs) =
+value_parts : (cs : List ℕ) → ValueParts (map xml_char_of cs) (flat_map in_value cs)
+value_parts [] = record { parts = []; spelled = []; spells = refl; utf8 = refl; reads = refl }
+value_parts (c ∷ cs) =
     let t = value_char c in
-    let rest = value_reads cs in
+    let rest = value_parts cs in
     record {
       parts = t.part ∷ rest.parts;
       spelled = t.spelled ++ rest.spelled;
       spells = (t.spelled, rest.spelled, t.spells, rest.spells, refl);
       utf8 = encodes-append t.spelled rest.spelled ∙ ap (λ (x : List ℕ). x ++ encode_utf8_all rest.spelled) t.utf8 ∙ ap (λ (x : List ℕ). in_value c ++ x) rest.utf8;
       reads = ap (λ (x : List ℕ). x ++ read_value (is_return t.part) rest.parts) t.reads ∙ ap (λ (b : Bool). xml_char_of c ∷ read_value b rest.parts) t.flag ∙ ap (λ (x : List ℕ). xml_char_of c ∷ x) rest.reads;
+    }
+
+-- characters are pieces, and behind content they are its text
+data_pieces : (ds : List CharData) (x : List ℕ) → Spelled IsCharData ds x → Spelled IsPiece (map Data ds) x
+data_pieces [] x h = h
+data_pieces (d ∷ ds) x (y, z, hd, hs, e) = (y, z, hd, data_pieces ds z hs, e)
+
+more_text : (ds : List CharData) (ps : List Piece) (children : List Node) (words : List ℕ) → IsContent ps children words → IsContent (ps ++ map Data ds) children (words ++ encode_utf8_all (read_text (ends_in_return ps) ds))
+more_text [] ps children words h = rw (append-nil ps, append-nil words) h
+more_text (d ∷ ds) ps children words h =
+    let said = encode_utf8_all (read_char (ends_in_return ps) d) in
+    let more = more_text ds (ps ++ (Data d ∷ [])) children (words ++ said) (character ps children words d h) in
+    let flagged = subst (λ (b : Bool). IsContent ((ps ++ (Data d ∷ [])) ++ map Data ds) children ((words ++ said) ++ encode_utf8_all (read_text b ds))) (ends_last ps (Data d)) more in
+    let pieces = subst (λ (x : List Piece). IsContent x children ((words ++ said) ++ encode_utf8_all (read_text (is_return d) ds))) (append_assoc ps (Data d ∷ []) (map Data ds)) flagged in
+    let whole : (words ++ said) ++ encode_utf8_all (read_text (is_return d) ds) ≡ words ++ encode_utf8_all (read_char (ends_in_return ps) d ++ read_text (is_return d) ds) =
+    append_assoc words said (encode_utf8_all (read_text (is_return d) ds)) ∙ ap (λ (x : List ℕ). words ++ x) (sym (encodes-append (read_char (ends_in_return ps) d) (read_text (is_return d) ds))) in
+    subst (λ (x : List ℕ). IsContent (ps ++ (Data d ∷ map Data ds)) children x) whole pieces
+
+pub text_reads : (cs : List ℕ) → TextReadsAs (map xml_char_of cs) (flat_map in_text cs)
+text_reads cs =
+    let t = text_parts cs in
+    record {
+      pieces = map Data t.parts;
+      spelled = t.spelled;
+      spells = data_pieces t.parts t.spelled t.spells;
+      content = subst (λ (x : List ℕ). IsContent (map Data t.parts) [] (encode_utf8_all x)) t.reads (more_text t.parts [] [] [] nothing);
+      utf8 = t.utf8;
+    }
+
+pub value_reads : (cs : List ℕ) → ValueReadsAs (map xml_char_of cs) (flat_map in_value cs)
+value_reads cs =
+    let t = value_parts cs in
+    record {
+      inside = t.spelled;
+      value = (34, t.parts, t.spelled, refl, t.spells, ap encode_utf8_all (sym t.reads), refl);
+      utf8 = t.utf8;
     }

@@ -4,5 +4,6 @@ pub mod Firsts
 pub mod Reached
 pub mod Answering
 pub mod OneReading
+pub mod AllReadings
 pub mod Writing
 pub mod Escaping

@@ -1,7 +1,8 @@
 -- Names that are written alike are equal.
-use Rattle.std.proofs.Common.{◌≡◌, Bool, true, false, ◌&&◌, List, ℕ, Option, Some, None, refl, ap, ◌∙◌}
+use Rattle.std.proofs.Common.{◌≡◌, Bool, true, List, ℕ, Option, Some, None, refl, ap, ◌∙◌}
 use Rattle.std.specs.Str.{bytes_eq}
 use Rattle.std.specs.Bool.{Decides}
+use Rattle.std.proofs.lemmas.Bool.{and_parts}
 use Rattle.std.proofs.lemmas.Slice.Eq.{bytes_eq-Decides}
 use Rattle.rosa_pieces.specs.declared.piece.Name.{Name}
 use Rattle.rosa_pieces.specs.Pieces.{same_name, same_prefix}
@@ -28,13 +29,9 @@ prefix_alike : (p : Option (List ℕ)) → same_prefix p p ≡ true
 prefix_alike None = refl
 prefix_alike (Some p) = bytes_alike p
 
-both_hold : (a b : Bool) → a && b ≡ true → (a ≡ true) × (b ≡ true)
-both_hold true b h = (refl, h)
-both_hold false b h = absurd cc
-
 pub same_names : (m n : Name) → same_name m n ≡ true → m ≡ n
 same_names m n e =
-    let a = both_hold (same_prefix m.prefix n.prefix) (bytes_eq m.local n.local) e in
+    let a = and_parts (same_prefix m.prefix n.prefix) (bytes_eq m.local n.local) e in
     let p = same_prefixes m.prefix n.prefix a.0 in
     let l = same_bytes m.local n.local a.1 in
     ap (λ (x : Option (List ℕ)). record { prefix = x; local = m.local }) p ∙ ap (λ (x : List ℕ). record { prefix = n.prefix; local = x }) l

@@ -2,6 +2,7 @@
 use Rattle.std.proofs.Common.{◌≡◌, ℕ, ◌+◌, ◌<◌, ◌≤◌, Bool, true, false, cond, ◌&&◌, List, [], ◌∷◌, ◌++◌, length, Option, Some, None, refl, sym, ap, subst, ◌∙◌, arith, append_assoc}
 use Rattle.std.specs.Prelude.{count_by}
 use Rattle.std.specs.List.{list_all}
+use Rattle.std.proofs.lemmas.Bool.{and_parts}
 use Rattle.std.proofs.lemmas.List.{append-nil}
 use Rattle.std.proofs.lemmas.List.Sums.{sum_by-cons}
 use Rattle.rosa_pieces.specs.declared.piece.Name.{Name}
@@ -187,21 +188,17 @@ around_step_before r Comment h = refl
 around_step_before r Instruction h = refl
 around_step_before r (Data d) h = rw h refl
 
-both_hold : (a b : Bool) → a && b ≡ true → (a ≡ true) × (b ≡ true)
-both_hold true b h = (refl, h)
-both_hold false b h = absurd cc
-
 before_runs : (more : List Piece) (ps : List Piece) (r : Bool) → list_all is_around ps ≡ true → (s : Bool) × (run (ps ++ more) Before r ≡ run more Before s)
 before_runs more [] r h = (r, refl)
 before_runs more (p ∷ ps) r h =
-    let a = both_hold (is_around p) (list_all is_around ps) h in
+    let a = and_parts (is_around p) (list_all is_around ps) h in
     let rest = before_runs more ps (is_return_piece p) a.1 in
     (rest.0, rw (around_step_before r p a.0) rest.1)
 
 after_runs : (root : Element) (ps : List Piece) (r : Bool) → list_all is_around ps ≡ true → run ps (After root) r ≡ Some (After root)
 after_runs root [] r h = refl
 after_runs root (p ∷ ps) r h =
-    let a = both_hold (is_around p) (list_all is_around ps) h in
+    let a = and_parts (is_around p) (list_all is_around ps) h in
     rw (a.0) (after_runs root ps (is_return_piece p) a.1)
 
 pub document_runs : (ps : List Piece) (root : Element) → IsDocument ps root → run ps Before false ≡ Some (After root)

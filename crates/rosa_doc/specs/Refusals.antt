@@ -1,6 +1,6 @@
 -- Documents within the limits, and which refusal comes in place of one. A list of first pieces is refused as soon as no
 -- document, however deep, begins with it.
-use Rattle.std.specs.Prelude.{◌≡◌, ◌≢◌, ℕ, ◌+◌, ◌-◌, ◌<◌, ◌≤◌, Bool, true, false, List, [], ◌∷◌, ◌++◌, codes, length, count_by, nat_eq, encode_utf8_all}
+use Rattle.std.specs.Prelude.{◌≡◌, ◌≢◌, ℕ, ◌+◌, ◌-◌, ◌<◌, ◌≤◌, Bool, true, false, List, [], ◌∷◌, ◌++◌, Result, Ok, Err, codes, length, count_by, nat_eq, encode_utf8_all}
 use Rattle.std.specs.List.{starts_with}
 use Rattle.std.specs.Str.{IsUtf8, IsValidUpTo}
 use Rattle.rosa_pieces.specs.declared.piece.Piece.{Piece}
@@ -113,3 +113,8 @@ Refuses bytes (refusals.Unclosed at) = (ps : List Piece) × Stops bytes at ps []
 Refuses bytes (refusals.HasDoctype at) = (ps : List Piece) × (rest : List ℕ) × Stops bytes at ps rest × (is_doctype rest ≡ true)
 Refuses bytes (refusals.BadMarkup at) = (ps : List Piece) × (rest : List ℕ) × Stops bytes at ps rest × (rest ≢ []) × (is_doctype rest ≡ false)
 Refuses bytes refusals.NoMemory = Unit {0}
+
+-- what the bytes are read as: the document that they spell, or their refusal; want of memory is neither
+abbrev pub ReadsAs : List ℕ → Result Doc DocRefused → Type 0
+ReadsAs bytes (Ok doc) = IsDoc bytes doc
+ReadsAs bytes (Err refusal) = Refuses bytes refusal × (refusal ≢ refusals.NoMemory)

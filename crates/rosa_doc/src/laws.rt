@@ -1,20 +1,24 @@
-ghost use Rattle.std.specs.Prelude.{◌≡◌, ℕ, List, map};
+// What holds of any bytes and texts, as contracts of functions that do nothing.
+ghost use Rattle.std.specs.Prelude.{◌≡◌, ℕ, List, Result, map};
 ghost use Rattle.std.specs.List.{flat_map};
 ghost use Rattle.field_text.specs.Xml.{xml_char_of};
-ghost use Rattle.rosa_doc.specs.Escapes.{in_text, in_value, ReadsAs, ReadsInValue};
 ghost use Rattle.rosa_doc.specs.declared.tree.Doc.{Doc};
 ghost use Rattle.rosa_doc.specs.declared.refusal.DocRefused.{DocRefused};
-ghost use Rattle.rosa_doc.specs.declared.refusal.DocRefused.TheVariants.{NoMemory};
-ghost use Rattle.rosa_doc.specs.Refusals.{IsDoc, Refuses};
+ghost use Rattle.rosa_doc.specs.Refusals.{ReadsAs};
+ghost use Rattle.rosa_doc.specs.Escapes.{in_text, in_value, TextReadsAs, ValueReadsAs};
 
-/// Bytes spell one document at most, and bytes that spell one have no refusal but want of memory.
+/// Bytes are read as one document or one refusal at most.
 pub fn one_reading()
-    ensures document { (bytes : List ℕ) (a b : Doc) → IsDoc bytes a → IsDoc bytes b → a ≡ b }
-    ensures apart { (bytes : List ℕ) (doc : Doc) (refusal : DocRefused) → IsDoc bytes doc → Refuses bytes refusal → refusal ≡ NoMemory }
+    ensures { (bytes : List ℕ) (a b : Result Doc DocRefused) → ReadsAs bytes a → ReadsAs bytes b → a ≡ b }
+{}
+
+/// Bytes are read as a document or a refusal, whichever bytes they are.
+pub fn all_bytes_are_read()
+    ensures { (bytes : List ℕ) → (reading : Result Doc DocRefused) × ReadsAs bytes reading }
 {}
 
 /// What the writers append reads as the text that was given, with U+FFFD for each character that a document may not hold.
 pub fn written_reads()
-    ensures text { (cs : List ℕ) → ReadsAs (map xml_char_of cs) (flat_map in_text cs) }
-    ensures value { (cs : List ℕ) → ReadsInValue (map xml_char_of cs) (flat_map in_value cs) }
+    ensures text { (cs : List ℕ) → TextReadsAs (map xml_char_of cs) (flat_map in_text cs) }
+    ensures value { (cs : List ℕ) → ValueReadsAs (map xml_char_of cs) (flat_map in_value cs) }
 {}

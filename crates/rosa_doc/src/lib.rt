@@ -12,7 +12,7 @@ mod tests;
 mod tree;
 mod writer;
 
-pub use laws::{one_reading, written_reads};
+pub use laws::{all_bytes_are_read, one_reading, written_reads};
 pub use reading::read;
 pub use refusal::DocRefused;
 pub use tree::{Attribute, Doc, Element, Node};

@@ -4,7 +4,7 @@ use std::alloc::Global;
 use std::process::Abort;
 use std::test::Fail;
 
-static DOCUMENTS: [(&str, &str); 36] = [
+static DOCUMENTS: [(&str, &str); 54] = [
     ("<a/>", "a"),
     ("<a></a>", "a"),
     ("<a ></a >", "a"),
@@ -44,9 +44,33 @@ static DOCUMENTS: [(&str, &str); 36] = [
         "<a><a><a><a><a><a><a><a><a><a><a><a><a><a><a><a></a></a></a></a></a></a></a></a></a></a></a></a></a></a></a></a>",
         "a<a>",
     ),
+    ("<a k='x\ry\nz'/>", "a k=x y z"),
+    ("<a k='x\r\r\ny'/>", "a k=x  y"),
+    ("<a k='&lt;&amp;&#x9;&quot;&apos;'/>", "a k=<&\t\"'"),
+    ("<a k='\u{FEFF}'/>", "a k=\u{FEFF}"),
+    ("<a k = 'v'\tl\n=\r\n\"w\" />", "a k=v l=w"),
+    ("<a k='1' K='2'/>", "a k=1 K=2"),
+    ("<xmlns:a/>", "a"),
+    ("<a p:xmlns='v'/>", "a xmlns=v"),
+    ("<!--c--><?p?><a/>", "a"),
+    ("<a><?p?><!--c--><b/><!--d--><?q?>x</a>", "a<b>[x]"),
+    ("<a><!--<b>&\r--><?p <c> & ?></a>", "a"),
+    ("<a>\n</a>", "a[\n]"),
+    ("<a>x\r&#10;\ny</a>", "a[x\n\n\ny]"),
+    ("<a>&#9;&#x20;&#xFFFD;</a>", "a[\t \u{FFFD}]"),
+    (
+        "<a>&#x10FFFF;&#xD7FF;&#xE000;&#1114111;</a>",
+        "a[\u{10FFFF}\u{D7FF}\u{E000}\u{10FFFF}]",
+    ),
+    ("<a>\u{7F}\u{85}</a>", "a[\u{7F}\u{85}]"),
+    ("<a.-_9></a.-_9>", "a.-_9"),
+    (
+        "<a><a><a><a><a><a><a><a><a><a><a><a><a><a><a><a/>x<a></a></a></a></a></a></a></a></a></a></a></a></a></a></a></a></a>",
+        "a<a>",
+    ),
 ];
 
-static REFUSED: [(&str, DocRefused); 49] = [
+static REFUSED: [(&str, DocRefused); 88] = [
     ("", DocRefused::Unclosed { at: 0 }),
     ("<a>", DocRefused::Unclosed { at: 3 }),
     ("<a></b>", DocRefused::BadMarkup { at: 3 }),
@@ -105,6 +129,57 @@ static REFUSED: [(&str, DocRefused); 49] = [
     ("\u{FEFF}<!DOCTYPE a>", DocRefused::HasDoctype { at: 3 }),
     ("\u{E9}", DocRefused::BadMarkup { at: 0 }),
     ("<a>\u{E9}</b>", DocRefused::BadMarkup { at: 5 }),
+    ("<", DocRefused::BadMarkup { at: 0 }),
+    ("<a", DocRefused::BadMarkup { at: 0 }),
+    ("< a/>", DocRefused::BadMarkup { at: 0 }),
+    ("x<a/>", DocRefused::BadMarkup { at: 0 }),
+    ("<a/>&amp;", DocRefused::BadMarkup { at: 4 }),
+    ("<a/></a>", DocRefused::BadMarkup { at: 4 }),
+    ("<a/><!--c-->x", DocRefused::BadMarkup { at: 12 }),
+    ("<a/><!--", DocRefused::BadMarkup { at: 4 }),
+    ("<a/><?p", DocRefused::BadMarkup { at: 4 }),
+    ("<a>&#1114112;</a>", DocRefused::BadMarkup { at: 3 }),
+    (
+        "<a>&#99999999999999999999;</a>",
+        DocRefused::BadMarkup { at: 3 },
+    ),
+    ("<a>&#xD800;</a>", DocRefused::BadMarkup { at: 3 }),
+    ("<a>&#xFFFF;</a>", DocRefused::BadMarkup { at: 3 }),
+    ("<a>&#11;</a>", DocRefused::BadMarkup { at: 3 }),
+    ("<a>&#;</a>", DocRefused::BadMarkup { at: 3 }),
+    ("<a>&#x;</a>", DocRefused::BadMarkup { at: 3 }),
+    ("<a>&#-1;</a>", DocRefused::BadMarkup { at: 3 }),
+    ("<a>]]&gt;<<</a>", DocRefused::BadMarkup { at: 9 }),
+    ("<a k='&#0;'/>", DocRefused::BadMarkup { at: 0 }),
+    ("<a k='&nbsp;'/>", DocRefused::BadMarkup { at: 0 }),
+    ("<a k='&'/>", DocRefused::BadMarkup { at: 0 }),
+    ("<a k='\u{1}'/>", DocRefused::BadMarkup { at: 0 }),
+    ("<a k='v\"/>", DocRefused::BadMarkup { at: 0 }),
+    ("<a k='v''/>", DocRefused::BadMarkup { at: 0 }),
+    ("<a <!--c-->/>", DocRefused::BadMarkup { at: 0 }),
+    ("<a k='<!--c-->'/>", DocRefused::BadMarkup { at: 0 }),
+    ("<a></a<?p?>>", DocRefused::BadMarkup { at: 3 }),
+    ("<!--c-->\u{FEFF}<a/>", DocRefused::BadMarkup { at: 8 }),
+    ("<a:b:c/>", DocRefused::BadMarkup { at: 0 }),
+    ("<:a/>", DocRefused::BadMarkup { at: 0 }),
+    ("<a:/>", DocRefused::BadMarkup { at: 0 }),
+    ("<a :k='1'/>", DocRefused::BadMarkup { at: 0 }),
+    ("<a p:k='1' p:k='2'/>", DocRefused::BadMarkup { at: 0 }),
+    ("<![CDATA[x]]><a/>", DocRefused::BadMarkup { at: 0 }),
+    ("<a/><![CDATA[x]]>", DocRefused::BadMarkup { at: 4 }),
+    ("<!DOCTYP a><a/>", DocRefused::BadMarkup { at: 0 }),
+    (
+        "<a></b><a><a><a><a><a><a><a><a><a><a><a><a><a><a><a><a><a>",
+        DocRefused::BadMarkup { at: 3 },
+    ),
+    (
+        "<a><a><a><a><a><a><a><a><a><a><a><a><a><a><a><a>x<a>",
+        DocRefused::TooDeep { at: 49 },
+    ),
+    (
+        "<a><a><a><a><a><a><a><a><a><a><a><a><a><a><a><a></a><a><a>",
+        DocRefused::TooDeep { at: 55 },
+    ),
 ];
 
 /// The root's name, its attributes, and its children: texts between square brackets, elements by their names.
@@ -172,7 +247,7 @@ fn others_are_refused(rt: HostRuntime) -> Result<(), Fail> {
 fn too_long_is_refused(rt: HostRuntime) -> Result<(), Fail> {
     let mut bytes = Vec::new(rt.alloc());
     for _ in 0..262_145 {
-        bytes.push(b' ')?;
+        bytes.push(0xFF)?;
     }
     let length = 262_145;
     check_refused(
@@ -184,15 +259,53 @@ fn too_long_is_refused(rt: HostRuntime) -> Result<(), Fail> {
     Ok(())
 }
 
-static SMALL: &str = "<a k='v'>x<!--c--><b/></a>";
+static SMALL: &str = "<a k='v'>\u{E9}<!--c--><b/></a>";
+
+/// What each front of the small document is refused with, the shortest first.
+static CUTS: [DocRefused; 27] = [
+    DocRefused::Unclosed { at: 0 },
+    DocRefused::BadMarkup { at: 0 },
+    DocRefused::BadMarkup { at: 0 },
+    DocRefused::BadMarkup { at: 0 },
+    DocRefused::BadMarkup { at: 0 },
+    DocRefused::BadMarkup { at: 0 },
+    DocRefused::BadMarkup { at: 0 },
+    DocRefused::BadMarkup { at: 0 },
+    DocRefused::BadMarkup { at: 0 },
+    DocRefused::Unclosed { at: 9 },
+    DocRefused::NotUtf8 { at: 9 },
+    DocRefused::Unclosed { at: 11 },
+    DocRefused::BadMarkup { at: 11 },
+    DocRefused::BadMarkup { at: 11 },
+    DocRefused::BadMarkup { at: 11 },
+    DocRefused::BadMarkup { at: 11 },
+    DocRefused::BadMarkup { at: 11 },
+    DocRefused::BadMarkup { at: 11 },
+    DocRefused::BadMarkup { at: 11 },
+    DocRefused::Unclosed { at: 19 },
+    DocRefused::BadMarkup { at: 19 },
+    DocRefused::BadMarkup { at: 19 },
+    DocRefused::BadMarkup { at: 19 },
+    DocRefused::Unclosed { at: 23 },
+    DocRefused::BadMarkup { at: 23 },
+    DocRefused::BadMarkup { at: 23 },
+    DocRefused::BadMarkup { at: 23 },
+];
+
+fn check_cut(rt: &impl Abort, alloc: Global, end: usize, want: DocRefused) {
+    match SMALL.as_bytes().get(..end) {
+        Some(front) => check_refused(rt, alloc, front, want),
+        None => assert!(rt; false),
+    }
+}
 
 #[test]
 fn a_document_cut_at_any_byte_is_refused(rt: HostRuntime) -> Result<(), Fail> {
-    for end in 0..SMALL.len() {
-        let refusal = read(rt.alloc(), &SMALL.as_bytes()[..end]).err();
-        assert!(rt; refusal.is_some());
+    assert_eq!(rt; SMALL.len(), CUTS.len());
+    for (end, want) in CUTS.iter().enumerate() {
+        check_cut(&rt, rt.alloc(), end, *want);
     }
-    Ok(())
+    check_document(&rt, rt.alloc(), SMALL, "a k=v[\u{E9}]<b>")
 }
 
 #[test]

@@ -1,6 +1,7 @@
 -- The characters at the front that pass a test, and those after them.
-use Rattle.std.proofs.Common.{◌≡◌, ℕ, ◌-◌, ◌≤◌, Bool, true, false, cond, ◌&&◌, List, [], ◌∷◌, ◌++◌, length, take, refl, sym, ap, ◌∙◌, arith}
+use Rattle.std.proofs.Common.{◌≡◌, ℕ, ◌-◌, ◌≤◌, Bool, true, false, cond, List, [], ◌∷◌, ◌++◌, length, take, refl, sym, ap, ◌∙◌, arith}
 use Rattle.std.specs.List.{list_all}
+use Rattle.std.proofs.lemmas.Bool.{and_parts}
 use Rattle.std.proofs.lemmas.List.{take_at, length-append}
 use Rattle.rosa_pieces.specs.Reading.{front, past}
 use Rattle.rosa_pieces.specs.Pieces.{begins}
@@ -30,12 +31,8 @@ pub past_fails : (p : ℕ → Bool) (cs : List ℕ) → begins p (past p cs) ≡
 past_fails p [] = refl
 past_fails p (c ∷ cs) = past_ends-by p c cs (p c) refl (past_fails p cs)
 
-pub both_hold : (a b : Bool) → a && b ≡ true → (a ≡ true) × (b ≡ true)
-both_hold true b h = (refl, h)
-both_hold false b h = absurd cc
-
 pub all_head : (p : ℕ → Bool) (c : ℕ) (cs : List ℕ) → list_all p (c ∷ cs) ≡ true → (p c ≡ true) × (list_all p cs ≡ true)
-all_head p c cs h = both_hold (p c) (list_all p cs) h
+all_head p c cs h = and_parts (p c) (list_all p cs) h
 
 -- characters that pass, and then none: where the front ends
 pub past_at : (p : ℕ → Bool) (x r : List ℕ) → list_all p x ≡ true → begins p r ≡ false → past p (x ++ r) ≡ r

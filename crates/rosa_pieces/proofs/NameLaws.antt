@@ -1,12 +1,12 @@
 -- A name that is read is spelled so, and a name that is spelled is read.
 use Rattle.std.proofs.Common.{◌≡◌, ℕ, Bool, true, false, ◌==◌, List, [], ◌∷◌, ◌++◌, Option, Some, None, refl, sym, ap, subst, ◌∙◌, inl, inr, append_assoc, encode_utf8_all}
 use Rattle.std.specs.List.{list_all}
-use Rattle.std.proofs.lemmas.Bool.{eqb-true}
+use Rattle.std.proofs.lemmas.Bool.{eqb-true, and_parts}
 use Rattle.field_text.specs.Xml.{is_name_start, is_name_char, begins_as_name, is_local_name}
 use Rattle.rosa_pieces.specs.declared.piece.Name.{Name}
 use Rattle.rosa_pieces.specs.Pieces.{begins, IsName, SpellsName}
 use Rattle.rosa_pieces.specs.Reading.{◌>>=◌, front, past, local_at, name_from, name_at}
-use Rattle.rosa_pieces.proofs.Fronts.{both_hold, front_past, front_passes, past_at, front_at}
+use Rattle.rosa_pieces.proofs.Fronts.{front_past, front_passes, past_at, front_at}
 use Rattle.rosa_pieces.proofs.Steps.{bind_some, chosen_some, chosen, some_is, start_is_char}
 
 front_begins : (cs : List ℕ) → begins_as_name cs ≡ true → begins_as_name (front is_name_char cs) ≡ true
@@ -26,10 +26,10 @@ local_takes cs text rest e =
 
 name_begins : (x r : List ℕ) → is_local_name x ≡ true → begins_as_name (x ++ r) ≡ true
 name_begins [] r h = absurd cc
-name_begins (c ∷ cs) r h = (both_hold (is_name_start c) (list_all is_name_char (c ∷ cs)) h).0
+name_begins (c ∷ cs) r h = (and_parts (is_name_start c) (list_all is_name_char (c ∷ cs)) h).0
 
 name_is_all : (x : List ℕ) → is_local_name x ≡ true → list_all is_name_char x ≡ true
-name_is_all x h = (both_hold (begins_as_name x) (list_all is_name_char x) h).1
+name_is_all x h = (and_parts (begins_as_name x) (list_all is_name_char x) h).1
 
 pub local_again : (x r : List ℕ) → is_local_name x ≡ true → begins is_name_char r ≡ false → local_at (x ++ r) ≡ Some (encode_utf8_all x, r)
 unfolding local_at
@@ -95,9 +95,9 @@ name_again n x r h stops plain = name_again_by n.prefix n.local x r h stops plai
 
 name_first_by : (prefix : Option (List ℕ)) (local x : List ℕ) → SpellsName prefix local x → (c : ℕ) × (cs : List ℕ) × (is_name_start c ≡ true) × (x ≡ c ∷ cs)
 name_first_by None local [] (named, is) = absurd cc
-name_first_by None local (c ∷ cs) (named, is) = (c, cs, (both_hold (is_name_start c) (list_all is_name_char (c ∷ cs)) named).0, refl)
+name_first_by None local (c ∷ cs) (named, is) = (c, cs, (and_parts (is_name_start c) (list_all is_name_char (c ∷ cs)) named).0, refl)
 name_first_by (Some prefix) local x ([], b, ha, hb, pa, lb, e) = absurd cc
-name_first_by (Some prefix) local x (c ∷ cs, b, ha, hb, pa, lb, e) = (c, cs ++ (58 ∷ b), (both_hold (is_name_start c) (list_all is_name_char (c ∷ cs)) ha).0, e)
+name_first_by (Some prefix) local x (c ∷ cs, b, ha, hb, pa, lb, e) = (c, cs ++ (58 ∷ b), (and_parts (is_name_start c) (list_all is_name_char (c ∷ cs)) ha).0, e)
 
 -- the first character of a name
 pub name_first : (n : Name) (x : List ℕ) → IsName n x → (c : ℕ) × (cs : List ℕ) × (is_name_start c ≡ true) × (x ≡ c ∷ cs)

@@ -4,7 +4,7 @@ use Rattle.std.specs.Prelude.{option_map, Result, Ok, Err, IfOk, IsErrOf}
 use Rattle.rosa_pieces.specs.declared.unread.Unread.{Unread}
 use Rattle.rosa_pieces.specs.declared.unread.Unread.TheVariants.{Absent, NoMemory}
 use Rattle.std.specs.List.{list_all, starts_with}
-use Rattle.std.proofs.lemmas.Bool.{eqb-true, eq-eqb}
+use Rattle.std.proofs.lemmas.Bool.{eqb-true, eq-eqb, and_parts, not-true}
 use Rattle.std.proofs.lemmas.Bool.Decides.{Decides-eqb}
 use Rattle.std.proofs.lemmas.Slice.Eq.{starts_is}
 use Rattle.std.proofs.lemmas.List.{length-append, take_at, drop_at, append_cancel_right}
@@ -16,8 +16,8 @@ use Rattle.rosa_pieces.specs.declared.piece.Piece.{Piece}
 use Rattle.rosa_pieces.specs.declared.piece.Piece.TheVariants.{Start, Empty, End, Comment, Instruction, Data}
 use Rattle.rosa_pieces.specs.Pieces.{begins, lacks_pair, IsTag, IsPiece, IsCharData}
 use Rattle.rosa_pieces.specs.Reading.{◌>>=◌, Gives, data_at, tag_at, tag_piece, tag_piece_at, end_at, until, skipped_at, comment_at, markup_at, piece_at}
-use Rattle.rosa_pieces.proofs.Fronts.{all_head, both_hold}
-use Rattle.rosa_pieces.proofs.Steps.{bind_some, chosen_some, chosen, some_is, apart, none_is_not_some, not_true, literal_parts}
+use Rattle.rosa_pieces.proofs.Fronts.{all_head}
+use Rattle.rosa_pieces.proofs.Steps.{bind_some, chosen_some, chosen, some_is, apart, none_is_not_some, literal_parts}
 use Rattle.rosa_pieces.proofs.NameLaws.{name_first}
 use Rattle.rosa_pieces.proofs.DataLaws.{data_takes, data_again}
 use Rattle.rosa_pieces.proofs.TagLaws.{close_text, tag_takes, tag_again, end_takes, end_again}
@@ -86,7 +86,7 @@ abbrev comment_close : List ℕ
 comment_close = 45 ∷ (45 ∷ (62 ∷ []))
 
 lacks_head : (a b c : ℕ) (cs : List ℕ) → lacks_pair a b (c ∷ cs) ≡ true → ((c == a) && begins (λ d. d == b) cs ≡ false) × (lacks_pair a b cs ≡ true)
-lacks_head a b c cs h = let g = both_hold (not ((c == a) && begins (λ d. d == b) cs)) (lacks_pair a b cs) h in (not_true ((c == a) && begins (λ d. d == b) cs) g.0, g.1)
+lacks_head a b c cs h = let g = and_parts (not ((c == a) && begins (λ d. d == b) cs)) (lacks_pair a b cs) h in (not-true ((c == a) && begins (λ d. d == b) cs) g.0, g.1)
 
 no_instruction_end : (c : ℕ) (cs r rest : List ℕ) → (c == 63) && begins (λ d. d == 62) cs ≡ false → c ∷ (cs ++ (63 ∷ (62 ∷ r))) ≡ 63 ∷ (62 ∷ rest) → ⊥
 no_instruction_end c [] r rest lacks e = let bad : ◌≡◌ {A = ℕ} 63 62 = cc in absurd (omega (arith, bad))
@@ -139,7 +139,7 @@ comment_takes [] p rest e = absurd cc
 comment_takes (c ∷ []) p rest e = absurd cc
 comment_takes (c ∷ d ∷ cs) p rest e =
     let g = chosen_some ((c == 45) && (d == 45)) (skipped_at Comment comment_close 45 45 cs) (p, rest) e in
-    let t = both_hold (c == 45) (d == 45) g.0 in
+    let t = and_parts (c == 45) (d == 45) g.0 in
     let (p-is, inside, all, lacks, whole) = skipped_takes Comment comment_close 45 45 cs p rest g.1 in
     let x = 60 ∷ (33 ∷ (45 ∷ (45 ∷ (inside ++ comment_close)))) in
     let spelled : IsPiece Comment x = (inside, all, lacks, refl) in
@@ -246,7 +246,7 @@ one_piece p q x y r s hp hq e =
     let rest-is : r ≡ s = ap (λ (z : Piece × List ℕ). z.1) same in
     (ap (λ (z : Piece × List ℕ). z.0) same, append_cancel_right x y s (ap (λ (z : List ℕ). x ++ z) (sym rest-is) ∙ e), rest-is)
 
-no_piece : (cs : List ℕ) → piece_at cs ≡ None → (p : Piece) (x r : List ℕ) → IsPiece p x → cs ≡ x ++ r → ⊥
+pub no_piece : (cs : List ℕ) → piece_at cs ≡ None → (p : Piece) (x r : List ℕ) → IsPiece p x → cs ≡ x ++ r → ⊥
 no_piece cs e p x r h whole =
     let a : piece_at cs ≡ Some (p, r) = ap piece_at whole ∙ piece_again p x r h in
     none_is_not_some (p, r) (sym e ∙ a)

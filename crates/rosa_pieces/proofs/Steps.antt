@@ -1,11 +1,11 @@
 -- Steps that may fail, and tests.
 use Rattle.std.proofs.Common.{◌≡◌, ℕ, Bool, true, false, cond, ◌||◌, not, ◌==◌, List, [], ◌∷◌, ◌++◌, Option, Some, None, refl, sym, ap, ◌∙◌, ◌⊎◌, inl, inr}
 use Rattle.std.specs.List.{list_all}
-use Rattle.std.proofs.lemmas.Bool.{eqb-true}
+use Rattle.std.proofs.lemmas.Bool.{eqb-true, and_parts, not-true, or_cases, or_parts}
 use Rattle.field_text.specs.Xml.{is_xml_char, is_xml_space, is_name_start, is_name_char, is_local_name}
 use Rattle.rosa_pieces.specs.Pieces.{begins, is_literal, is_quote, AreSpaces}
 use Rattle.rosa_pieces.specs.Reading.{◌>>=◌, past_one}
-use Rattle.rosa_pieces.proofs.Fronts.{both_hold, all_head}
+use Rattle.rosa_pieces.proofs.Fronts.{all_head}
 
 -- the value of a step that did not fail
 pub bind_some : {A B : Type 0} (o : Option A) (f : A → Option B) (y : B) → (o >>= f) ≡ Some y → (x : A) × (o ≡ Some x) × (f x ≡ Some y)
@@ -31,18 +31,6 @@ some_is x y e = cc
 pub none_is_not_some : {A : Type 0} (x : A) → None ≡ some x → ⊥
 none_is_not_some x e = absurd cc
 
-pub not_true : (b : Bool) → not b ≡ true → b ≡ false
-not_true true e = absurd cc
-not_true false e = refl
-
-pub either_holds : (a b : Bool) → a || b ≡ true → (a ≡ true) ⊎ (b ≡ true)
-either_holds true b e = inl refl
-either_holds false b e = inr e
-
-pub neither_holds : (a b : Bool) → a || b ≡ false → (a ≡ false) × (b ≡ false)
-neither_holds true b e = absurd cc
-neither_holds false b e = (refl, e)
-
 -- a test that passes one number and not another
 pub apart : (p : ℕ → Bool) (k c : ℕ) → p k ≡ false → p c ≡ true → (c == k) ≡ false
 apart p k c fails passes = elim (c == k) as (λ b. (c == k) ≡ b → b ≡ false) [
@@ -55,9 +43,9 @@ start_is_char c h = rw h refl
 
 pub space_is : (c : ℕ) → is_xml_space c ≡ true → (c ≡ 32) ⊎ ((c ≡ 9) ⊎ ((c ≡ 10) ⊎ (c ≡ 13)))
 space_is c h =
-    elim (either_holds (((c == 32) || (c == 9)) || (c == 10)) (c == 13) h) [
-      | inl h3 ↦ elim (either_holds ((c == 32) || (c == 9)) (c == 10) h3) [
-        | inl h2 ↦ elim (either_holds (c == 32) (c == 9) h2) [
+    elim (or_cases (((c == 32) || (c == 9)) || (c == 10)) (c == 13) h) [
+      | inl h3 ↦ elim (or_cases ((c == 32) || (c == 9)) (c == 10) h3) [
+        | inl h2 ↦ elim (or_cases (c == 32) (c == 9) h2) [
           | inl a ↦ inl (eqb-true c 32 a)
           | inr a ↦ inr (inl (eqb-true c 9 a))
         ]
@@ -95,13 +83,13 @@ past_one_cuts c (d ∷ cs) rest e =
 -- the first character of a name
 pub name_head : (x : List ℕ) → is_local_name x ≡ true → (c : ℕ) × (cs : List ℕ) × (is_name_start c ≡ true) × (x ≡ c ∷ cs)
 name_head [] h = absurd cc
-name_head (c ∷ cs) h = (c, cs, (both_hold (is_name_start c) (list_all is_name_char (c ∷ cs)) h).0, refl)
+name_head (c ∷ cs) h = (c, cs, (and_parts (is_name_start c) (list_all is_name_char (c ∷ cs)) h).0, refl)
 
 pub literal_parts : (c : ℕ) → is_literal c ≡ true → (is_xml_char c ≡ true) × ((c == 60) ≡ false) × ((c == 38) ≡ false)
 literal_parts c h =
-    let a = both_hold (is_xml_char c) (not ((c == 60) || (c == 38))) h in
-    let n = neither_holds (c == 60) (c == 38) (not_true ((c == 60) || (c == 38)) a.1) in
+    let a = and_parts (is_xml_char c) (not ((c == 60) || (c == 38))) h in
+    let n = or_parts (c == 60) (c == 38) (not-true ((c == 60) || (c == 38)) a.1) in
     (a.0, n.0, n.1)
 
 pub quote_is : (q : ℕ) → is_quote q ≡ true → (q ≡ 34) ⊎ (q ≡ 39)
-quote_is q h = elim (either_holds (q == 34) (q == 39) h) [ inl a ↦ inl (eqb-true q 34 a) | inr a ↦ inr (eqb-true q 39 a) ]
+quote_is q h = elim (or_cases (q == 34) (q == 39) h) [ inl a ↦ inl (eqb-true q 34 a) | inr a ↦ inr (eqb-true q 39 a) ]

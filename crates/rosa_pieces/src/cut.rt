@@ -42,7 +42,6 @@ fn any_piece_at(alloc: Global, chars: &[char]) -> Result<(Piece, &[char]), Unrea
 pub fn piece_at(alloc: Global, chars: &[char]) -> Result<(Piece, &[char]), Unread>
     ensures found { IfOk result (λ x. (spelled : List ℕ) × IsPiece x.0 spelled × (chars.now ≡ spelled ++ x.1.now)) }
     ensures absent { IsErrOf result Absent → (p : AnyPiece) (spelled rest : List ℕ) → IsPiece p spelled → chars.now ≡ spelled ++ rest → ⊥ }
-    ensures exact { Gives (λ x. (x.0, x.1.now)) result (piece_at chars.now) }
 {
     any_piece_at(alloc, chars)
 }

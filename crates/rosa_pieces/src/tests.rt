@@ -3,7 +3,7 @@ use std::alloc::Global;
 use std::process::Abort;
 use std::test::Fail;
 
-/// What kind a piece is, how much of the input it takes, and what it says.
+/// What kind a piece is.
 fn kind_of(piece: &Piece) -> &'static str {
     match piece {
         Piece::Start(_) => "start",

@@ -1,4 +1,4 @@
-use Rattle.std.proofs.Common.{◌<◌, length, ◌≡◌, ◌∷◌, ◌+◌, drop, refl, sym, ◌∙◌, ap, subst, arith}
+use Rattle.std.proofs.Common.{length, ◌∷◌, ◌+◌, drop, sym, ◌∙◌, ap, subst}
 use Rattle.std.proofs.lemmas.List.{drop_more}
 use Rattle.device_core.proofs.Payloads.{unread_from}
 use Rattle.device_core.specs.Replay.{IsUnread}

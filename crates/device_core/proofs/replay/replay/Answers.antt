@@ -1,5 +1,3 @@
-use Rattle.std.proofs.Common.{◌∙◌, ap, ◌++◌}
-use Rattle.std.specs.Prelude.{option_to_list}
 use Rattle.device_core.proofs.Replays.{so_far_more}
 use Rattle.device_core.proofs.replay.replay.Goals as goal
 

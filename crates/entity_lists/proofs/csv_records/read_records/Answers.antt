@@ -1,6 +1,5 @@
 -- The reader is followed record by record, until it has none left.
-use Rattle.std.proofs.Common.{Bor, List, ℕ, ◌≡◌, ◌∙◌, ◌+◌, arith, sym, refl, rules, inl, inr, true, map, length, Some, ◌∷◌, []}
-use Rattle.std.specs.Result.{is_ok}
+use Rattle.std.proofs.Common.{Bor, List, ℕ, ◌∙◌, ◌+◌, arith, sym, refl, inl, inr, map, length, Some, ◌∷◌, []}
 use Rattle.std.proofs.lemmas.List.{map-append}
 use Rattle.csv.specs.Reading.{Reached, default_config, strip_bom}
 use Rattle.csv.specs.Records.{fields_of}

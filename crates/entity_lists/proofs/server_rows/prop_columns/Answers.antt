@@ -1,14 +1,15 @@
 -- The names found so far are those of the columns read so far, each with its place.
-use Rattle.std.proofs.Common.{◌≡◌, ◌≤◌, ◌+◌, ◌<◌, ◌&&◌, not, ◌++◌, ◌∷◌, [], List, ℕ, Bor, Bool, Some, true, false, map, filter, length, take, drop, get_or, All, subst, length-append, arith, Vec, Global, ap, sym, refl, ◌∙◌}
+use Rattle.std.proofs.Common.{◌≡◌, ◌≤◌, ◌+◌, ◌&&◌, not, ◌++◌, ◌∷◌, [], List, ℕ, Bor, Some, map, filter, length, take, drop, get_or, All, subst, length-append, arith, Vec, Global, ap, sym, ◌∙◌}
 use Rattle.std.specs.List.{list_any}
 use Rattle.std.specs.Str.{bytes_eq, is_utf8}
-use Rattle.std.proofs.lemmas.List.{append-nil, map-append, take-append-drop, take_all}
+use Rattle.std.proofs.lemmas.List.{append-nil, length-map, map-append, take-append-drop, take_all}
 use Rattle.std.proofs.lemmas.List.Elements.{All-push}
-use Rattle.std.proofs.Math.Seq.{take-append_seam, take-length}
+use Rattle.std.proofs.Math.Seq.{take-append_seam}
 use Rattle.entity_lists.specs.CsvRecords.{contents}
 use Rattle.entity_lists.specs.ServerRows.{column_place, first_of_each, is_property, property_names}
 use Rattle.entity_lists.specs.declared.server_rows.PropColumn.{PropColumn}
-use Rattle.entity_lists.proofs.ColumnLemmas.{all_utf8_at, contents_at, if_passes, length-contents, length-mapped, more_names, names_step, new_place, taken_more}
+use Rattle.entity_lists.proofs.ColumnLemmas.{all_utf8_at, contents_at, length-contents, more_names, names_step, new_place, taken_more}
+use Rattle.entity_lists.proofs.FirstLemmas.{if_passes}
 use Rattle.entity_lists.proofs.server_rows.prop_columns.Goals as goal
 use Rattle.entity_lists.proofs.server_rows.prop_columns.Goals.{then-is_new_property+in_ok-name+in_ok-push, else-is_new_property, else-loop-place-test, then-loop-place-test+then-len-eq-PROPERTY_LIMIT}
 
@@ -30,7 +31,7 @@ all_read : (header : List (List ℕ)) (columns : List PropColumn) (i : ℕ) → 
 all_read header columns i names past few =
     let all : filter is_property (first_of_each (take i header)) ≡ filter is_property (first_of_each header) = ap (λ (h : List (List ℕ)). filter is_property (first_of_each h)) (take_all i header past) in
     let found = map (λ (p : PropColumn). p.name) columns in
-    let short : length found ≤ 64 = omega (arith, length-mapped (λ (p : PropColumn). p.name) columns) in
+    let short : length found ≤ 64 = omega (arith, length-map columns (λ (p : PropColumn). p.name)) in
     sym (ap (take 64) (sym (names ∙ all)) ∙ take_all 64 found short)
 
 enough_read : (header : List (List ℕ)) (columns : List PropColumn) (i : ℕ) → map (λ (p : PropColumn). p.name) columns ≡ filter is_property (first_of_each (take i header))
@@ -40,7 +41,7 @@ enough_read header columns i names full =
     let more = more_names is_property (take i header) (drop i header) in
     let all : filter is_property (first_of_each header) ≡ found ++ more.0 =
     ap (λ (h : List (List ℕ)). filter is_property (first_of_each h)) (sym (take-append-drop i header)) ∙ more.1 ∙ ap (λ (n : List (List ℕ)). n ++ more.0) (sym names) in
-    let size : length found ≡ 64 = length-mapped (λ (p : PropColumn). p.name) columns ∙ full in
+    let size : length found ≡ 64 = length-map columns (λ (p : PropColumn). p.name) ∙ full in
     sym (ap (take 64) all ∙ ap (λ n. take n (found ++ more.0)) (sym size) ∙ take-append_seam found more.0)
 
 pub loop-place-preserved : goal.loop-place-preserved

@@ -1,14 +1,14 @@
 -- Row by row: no fault so far, and the rows kept are those that name an entity.
-use Rattle.std.proofs.Common.{◌≡◌, ◌≢◌, ◌⊎◌, ◌+◌, ◌<◌, ◌≤◌, ◌==◌, ◌++◌, ◌∷◌, [], not, List, ℕ, Bor, Bool, true, false, Vec, Global, Some, None, map, filter, take, length, get_or, arith, ap, sym, subst, refl, inl, inr, ◌∙◌}
-use Rattle.std.proofs.lemmas.List.{append-nil, get_or-map, take_all}
+use Rattle.std.proofs.Common.{◌≡◌, ◌+◌, ◌<◌, ◌≤◌, ◌==◌, ◌++◌, [], not, List, ℕ, Bor, true, false, Vec, Global, Some, None, map, filter, take, length, get_or, arith, ap, sym, inl, inr, ◌∙◌}
+use Rattle.std.proofs.lemmas.List.{append-nil, get_or-map, length-map}
 use Rattle.std.proofs.lemmas.Result.{err_from_is_err_and}
 use Rattle.csv.specs.Records.{Row, fields_of}
 use Rattle.entity_lists.specs.CsvRecords.{contents}
-use Rattle.entity_lists.specs.ServerRows.{is_named, row_fault, rows_fault, server_row}
+use Rattle.entity_lists.specs.ServerRows.{is_named, row_fault, server_row}
 use Rattle.entity_lists.specs.declared.entities.ServerRow.{ServerRow}
 use Rattle.entity_lists.specs.declared.server_rows.CsvRefused.TheVariants.{TooMany}
-use Rattle.entity_lists.proofs.ColumnLemmas.{length-mapped}
-use Rattle.entity_lists.proofs.RowLemmas.{if_named, named_step, row_refused, row_taken, too_many_rows}
+use Rattle.entity_lists.proofs.FirstLemmas.{if_passes}
+use Rattle.entity_lists.proofs.RowLemmas.{named_step, row_refused, row_taken, too_many_rows}
 use Rattle.entity_lists.proofs.server_rows.read_rows.Goals as goal
 use Rattle.entity_lists.proofs.server_rows.read_rows.Goals.{then-not-is_empty+in_ok-push, else-not-is_empty}
 
@@ -24,7 +24,7 @@ returns-then-number-gt-ROW_LIMIT-clause-err c =
     let rows = map fields_of c.args.records.now in
     let i = c.loop-record.record-index in
     let inv = c.loop-record.invariant in
-    let small : i < length rows = omega (arith, length-mapped fields_of c.args.records.now, c.loop-record-test.true) in
+    let small : i < length rows = omega (arith, length-map c.args.records.now fields_of, c.loop-record-test.true) in
     let same : i + 1 ≡ c.loop-record.number + 1 = omega (arith, inv.number) in
     inr (too_many_rows header rows i small inv.sound (omega (arith, inv.number)) ∙ ap (λ n. Some (TooMany n)) same)
 
@@ -35,7 +35,7 @@ returns-in_err-row-clause-err c =
     let records = c.args.records.now in
     let i = c.loop-record.record-index in
     let inv = c.loop-record.invariant in
-    let small : i < length (map fields_of records) = omega (arith, length-mapped fields_of records, c.loop-record-test.true) in
+    let small : i < length (map fields_of records) = omega (arith, length-map records fields_of, c.loop-record-test.true) in
     let number : i + 1 ≡ c.loop-record.number + 1 = omega (arith, inv.number) in
     let here = fields_here records i c.record-item.result c.in_ok-fields.fields.items c.as_slice.result.now c.record-item.is c.loop-record-test.true c.in_ok-fields.ensures c.as_slice.ensures.value in
     rw (p.1, p.2) (elim c.in_err-row.ensures.err [
@@ -53,16 +53,16 @@ loop-record-preserved c =
     let inv = c.loop-record.invariant in
     let kept = c.loop-record.rows.items in
     let row = c.in_ok-row.row in
-    let small : i < length rows = omega (arith, length-mapped fields_of records, c.loop-record-test.true) in
+    let small : i < length rows = omega (arith, length-map records fields_of, c.loop-record-test.true) in
     let number : i + 1 ≡ c.loop-record.number + 1 = omega (arith, inv.number) in
     let here = fields_here records i c.record-item.result c.in_ok-fields.fields.items c.as_slice.result.now c.record-item.is c.loop-record-test.true c.in_ok-fields.ensures c.as_slice.ensures.value in
     let few : i + 1 ≤ 4096 = omega (arith, inv.number) in
     let fault : row_fault header (i + 1) (get_or rows i []) ≡ None =
     ap (λ n. row_fault header n (get_or rows i [])) number ∙ ap (row_fault header (c.loop-record.number + 1)) here ∙ c.in_ok-row.ensures.ok in
     let is : server_row header (get_or rows i []) ≡ row = ap (server_row header) here ∙ sym c.in_ok-row.ensures.row in
-    let step : filter is_named (map (server_row header) (take (i + 1) rows)) ≡ kept ++ if_named (is_named row) row =
-    named_step header rows i small ∙ ap (λ (l : List ServerRow). l ++ if_named (is_named (server_row header (get_or rows i []))) (server_row header (get_or rows i []))) (sym inv.rows)
-    ∙ ap (λ (r : ServerRow). kept ++ if_named (is_named r) r) is in
+    let step : filter is_named (map (server_row header) (take (i + 1) rows)) ≡ kept ++ if_passes (is_named row) row =
+    named_step header rows i small ∙ ap (λ (l : List ServerRow). l ++ if_passes (is_named (server_row header (get_or rows i []))) (server_row header (get_or rows i []))) (sym inv.rows)
+    ∙ ap (λ (r : ServerRow). kept ++ if_passes (is_named r) r) is in
     let empty : c.is_empty.result ≡ (length row.id == 0) = c.is_empty.ensures ∙ ap (λ (l : List ℕ). length l == 0) c.bytes.ensures.value in
     record {
       number = ap (λ n. n + 1) inv.number;
@@ -71,9 +71,9 @@ loop-record-preserved c =
       rows = elim c.if-not-is_empty.branch [
         | then-not-is_empty+in_ok-push w ↦
             let named : is_named row ≡ true = ap not (sym empty ∙ w.if-not-is_empty.true) in
-            ap (λ (v : Vec ServerRow Global). v.items) w.rows-is ∙ w.in_ok-push.ensures.items ∙ sym (ap (λ b. kept ++ if_named b row) named) ∙ sym step
+            ap (λ (v : Vec ServerRow Global). v.items) w.rows-is ∙ w.in_ok-push.ensures.items ∙ sym (ap (λ b. kept ++ if_passes b row) named) ∙ sym step
         | else-not-is_empty w ↦
             let unnamed : is_named row ≡ false = ap not (sym empty ∙ w.if-not-is_empty.false) in
-            ap (λ (v : Vec ServerRow Global). v.items) w.rows-is ∙ sym (append-nil kept) ∙ sym (ap (λ b. kept ++ if_named b row) unnamed) ∙ sym step
+            ap (λ (v : Vec ServerRow Global). v.items) w.rows-is ∙ sym (append-nil kept) ∙ sym (ap (λ b. kept ++ if_passes b row) unnamed) ∙ sym step
       ];
     }

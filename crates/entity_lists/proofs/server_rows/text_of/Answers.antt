@@ -1,5 +1,5 @@
-use Rattle.std.proofs.Common.{Err, ◌≡◌, ◌∙◌, true≢false, sym, arith, ap, subst, take, length, refl}
-use Rattle.std.specs.Str.{IsUtf8, IsValidUpTo, is_utf8}
+use Rattle.std.proofs.Common.{Err, ◌∙◌, ap, length}
+use Rattle.std.specs.Str.{IsValidUpTo}
 use Rattle.std.proofs.lemmas.Str.{IsUtf8-from_is_utf8}
 use Rattle.std.proofs.Math.Seq.{take-length}
 use Rattle.entity_lists.proofs.server_rows.text_of.Goals as goal

@@ -1,4 +1,4 @@
-use Rattle.std.proofs.Common.{◌≡◌, List, AllPairs, ap, sym, subst, ◌∙◌}
+use Rattle.std.proofs.Common.{List, AllPairs, ap, sym, subst, ◌∙◌}
 use Rattle.field_ids.specs.Ids.{id_of, text_of_id}
 use Rattle.entity_lists.specs.declared.entities.EntityRow.{EntityRow}
 use Rattle.entity_merge.specs.Actions.{acted_rows}

@@ -3,7 +3,7 @@ use Rattle.std.specs.Str.{bytes_eq}
 use Rattle.field_ids.specs.Ids.{id_of, text_of_id}
 use Rattle.entity_lists.specs.declared.entities.ServerRow.{ServerRow}
 use Rattle.entity_lists.proofs.ColumnLemmas.{position-map}
-use Rattle.entity_merge.specs.Merging.{contents, fresh_branch, place_among}
+use Rattle.entity_merge.specs.Merging.{contents, place_among}
 use Rattle.entity_merge.proofs.merging.branch_of.Goals as goal
 
 pub returns : goal.returns

@@ -1,8 +1,9 @@
-use Rattle.std.proofs.Common.{◌≡◌, ◌+◌, ◌++◌, ◌∷◌, [], List, ℕ, Bor, Bool, Vec, Global, true, false, filter, take, ap, sym, ◌∙◌}
+use Rattle.std.proofs.Common.{◌≡◌, ◌+◌, ◌++◌, ◌∷◌, [], List, Bor, Bool, Vec, Global, true, false, filter, take, ap, sym, ◌∙◌}
 use Rattle.std.proofs.lemmas.List.{append-nil, map-append}
 use Rattle.entity_lists.specs.declared.entities.ServerRow.{ServerRow}
+use Rattle.entity_lists.proofs.FirstLemmas.{if_passes}
 use Rattle.entity_merge.specs.Merging.{contents, draws_branch, first_rows, local_row}
-use Rattle.entity_merge.proofs.MergeLemmas.{if_passes, row_step}
+use Rattle.entity_merge.proofs.MergeLemmas.{row_step}
 use Rattle.entity_merge.proofs.merging.drawing.Goals as goal
 use Rattle.entity_merge.proofs.merging.drawing.Goals.{then-draws_here+in_ok-push, else-draws_here}
 

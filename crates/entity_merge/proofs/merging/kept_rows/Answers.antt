@@ -1,7 +1,6 @@
-use Rattle.std.proofs.Common.{◌≡◌, ◌+◌, ◌++◌, ◌∷◌, [], List, ℕ, Option, Some, None, Vec, Global, take, ap, sym, ◌∙◌}
+use Rattle.std.proofs.Common.{◌≡◌, ◌+◌, ◌++◌, ◌∷◌, [], List, Option, Some, None, Vec, Global, take, ap, sym, ◌∙◌}
 use Rattle.std.specs.List.{cons_option, filter_map}
 use Rattle.entity_lists.specs.declared.entities.EntityRow.{EntityRow}
-use Rattle.entity_lists.specs.declared.entities.ServerRow.{ServerRow}
 use Rattle.entity_merge.specs.Merging.{contents, fresh_branch, merged_row, server_row}
 use Rattle.entity_merge.proofs.MergeLemmas.{local_step}
 use Rattle.std.proofs.lemmas.List.{append-nil}

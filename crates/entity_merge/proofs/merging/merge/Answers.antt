@@ -1,5 +1,5 @@
 -- The merged list is made of its two parts, and its ids differ.
-use Rattle.std.proofs.Common.{◌≡◌, ◌+◌, ◌<◌, ◌≤◌, List, ℕ, AllPairs, length, arith, ap, sym, subst, inr, ◌∙◌}
+use Rattle.std.proofs.Common.{◌≡◌, ◌<◌, ◌≤◌, List, AllPairs, length, arith, ap, sym, subst, inr, ◌∙◌}
 use Rattle.entity_lists.specs.ServerRows.{row_limit}
 use Rattle.entity_lists.specs.declared.entities.EntityRow.{EntityRow}
 use Rattle.entity_merge.specs.Merging.{NewerStay, OfflineStay, merged_rows}
@@ -12,8 +12,8 @@ pub kept_rows-requires-clause-rooms : goal.kept_rows-requires-clause-rooms
 kept_rows-requires-clause-rooms c =
     omega (arith, few_drawing c.as_slice-locals.result.now c.args.rows.now c.in_ok-drawing.drawing.items c.in_ok-drawing.ensures, ap length c.as_slice.ensures.value)
 
-pub new_rows-requires-clause-rooms : goal.new_rows-requires-clause-rooms
-new_rows-requires-clause-rooms c =
+pub new_rows-requires : goal.new_rows-requires
+new_rows-requires c =
     omega (arith, few_drawing c.as_slice-locals.result.now c.args.rows.now c.in_ok-drawing.drawing.items c.in_ok-drawing.ensures, ap length c.as_slice-2.ensures.value)
 
 pub returns-then-count-gt-ROW_LIMIT-clause-refused : goal.returns-then-count-gt-ROW_LIMIT-clause-refused

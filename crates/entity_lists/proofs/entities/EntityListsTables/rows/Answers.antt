@@ -1,4 +1,4 @@
-use Rattle.std.proofs.Common.{◌≡◌, sym, ap, ◌∙◌}
+use Rattle.std.proofs.Common.{sym, ap, ◌∙◌}
 use Rattle.std.specs.Option.{option_copied}
 use Rattle.entity_lists.proofs.TableLemmas.{row_count-list, row_count-none}
 use Rattle.entity_lists.proofs.entities.EntityListsTables.rows.Goals as goal

@@ -1,9 +1,9 @@
 -- Each property is that of its column, by the column's place.
-use Rattle.std.proofs.Common.{◌≡◌, ◌+◌, ◌<◌, ◌≤◌, ◌++◌, ◌∷◌, [], List, ℕ, Bor, Some, map, take, length, get_or, add-one, arith, ap, sym, subst, refl, ◌∙◌}
+use Rattle.std.proofs.Common.{◌≡◌, ◌+◌, ◌<◌, ◌≤◌, ◌++◌, ◌∷◌, [], List, ℕ, Bor, Some, map, take, length, get_or, add-one, ap, sym, subst, refl, ◌∙◌}
 use Rattle.std.proofs.lemmas.List.{map-append, take_all}
 use Rattle.std.proofs.Math.Seq.{take-suc}
 use Rattle.entity_lists.specs.CsvRecords.{contents}
-use Rattle.entity_lists.specs.ServerRows.{column_place, field_under, prop_under, property_names}
+use Rattle.entity_lists.specs.ServerRows.{column_place, prop_under}
 use Rattle.entity_lists.specs.declared.entities.Prop.{Prop}
 use Rattle.entity_lists.specs.declared.server_rows.PropColumn.{PropColumn}
 use Rattle.entity_lists.proofs.ColumnLemmas.{field_under_place, place_in_row, text_at}

@@ -1,9 +1,7 @@
 -- A row as long as the header is read by the places of its columns.
-use Rattle.std.proofs.Common.{◌≡◌, List, ℕ, Bor, [], true, codes, unwrap_or, Option, Some, length, get_or, arith, ap, sym, ◌∙◌}
-use Rattle.std.specs.List.{list_all}
-use Rattle.std.specs.Str.{is_utf8}
+use Rattle.std.proofs.Common.{◌≡◌, List, ℕ, Bor, [], codes, unwrap_or, Option, Some, length, get_or, arith, ap, sym, ◌∙◌}
 use Rattle.entity_lists.specs.CsvRecords.{contents}
-use Rattle.entity_lists.specs.ServerRows.{column_place, field_under, server_row, version_in}
+use Rattle.entity_lists.specs.ServerRows.{column_place, field_under, version_in}
 use Rattle.entity_lists.proofs.ColumnLemmas.{field_under_place, length-contents, place_in_row, text_at}
 use Rattle.entity_lists.proofs.RowLemmas.{no_row_fault}
 use Rattle.entity_lists.proofs.server_rows.Header.row.Goals as goal
