@@ -1,0 +1,5 @@
+pub mod Reads
+pub mod Paths
+pub mod Fields
+pub mod Order
+pub mod Forms
