@@ -50,9 +50,9 @@ pub parent_path-at : (path : List ℕ) (end : ℕ) → end < length path → get
 parent_path-at path end within slash behind =
     let no_slash : ℕ → Bool = λ b. not (is_slash b) in
     let after : (k : ℕ) → end + 1 ≤ k → k < length path → no_slash (get_or path k 0) ≡ true =
-        λ k low high. ap not (ne_eqb (get_or path k 0) 47 (behind k (omega arith) high)) in
+    λ k low high. ap not (ne_eqb (get_or path k 0) 47 (behind k (omega arith) high)) in
     let here : 0 < end + 1 → no_slash (get_or path (end + 1 - 1) 0) ≡ false =
-        λ _. let e : end + 1 - 1 ≡ end = omega arith in rw (e, slash) refl in
+    λ _. let e : end + 1 - 1 ≡ end = omega arith in rw (e, slash) refl in
     let long : suffix_len no_slash path ≡ length path - (end + 1) = suffix_len_is no_slash path (end + 1) 0 (omega arith) after here in
     ap (λ n. take n path) (omega (arith, long))
 
@@ -60,7 +60,7 @@ pub parent_path-none : (path : List ℕ) → ((k : ℕ) → k < length path → 
 parent_path-none path off =
     let no_slash : ℕ → Bool = λ b. not (is_slash b) in
     let all : (k : ℕ) → 0 ≤ k → k < length path → no_slash (get_or path k 0) ≡ true =
-        λ k low high. ap not (ne_eqb (get_or path k 0) 47 (off k high)) in
+    λ k low high. ap not (ne_eqb (get_or path k 0) 47 (off k high)) in
     let long : suffix_len no_slash path ≡ length path - 0 = suffix_len_is no_slash path 0 0 (omega arith) all (λ h. absurd (omega arith)) in
     let e : 0 ≡ length path - suffix_len no_slash path - 1 = omega (arith, long) in
     ap (λ n. take n path) e

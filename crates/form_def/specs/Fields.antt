@@ -1,6 +1,6 @@
 -- The fields of a form, by their numbers in document order: which is whose parent, and what each reads.
-use Rattle.std.specs.Prelude.{ℕ, ◌+◌, Bool, true, ◌&&◌, nat_lt, List, [], ◌∷◌, ◌++◌, Option, Some, None, length, map, position}
-use Rattle.std.specs.List.{list_all}
+use Rattle.std.specs.Prelude.{ℕ, ◌≢◌, AllPairs, ◌+◌, Bool, true, ◌&&◌, nat_lt, List, [], ◌∷◌, ◌++◌, Option, Some, None, length, map, position}
+use Rattle.std.specs.List.{list_all, All}
 use Rattle.std.specs.Str.{bytes_eq}
 use Rattle.form_def.specs.declared.field.Field.{Field}
 use Rattle.form_def.specs.declared.field.Choices.{Choices}
@@ -28,10 +28,19 @@ reads_of_choices own (Rows table filter value) = reads_of own filter
 abbrev pub reads_of_field : ℕ → Field → List ℕ
 reads_of_field own f = reads_of own f.relevant ++ reads_of own f.constraint ++ reads_of own f.required ++ reads_of own f.readonly ++ reads_of own f.calculate ++ reads_of_choices own f.choices
 
+abbrev pub reads_below : ℕ → ℕ → Field → Bool
+reads_below count own f = list_all (λ k. nat_lt k count) (reads_of_field own f)
+
 -- of the fields from a number on, each reads fields of the form alone, which has so many
 abbrev pub are_within : ℕ → ℕ → List Field → Bool
 are_within count own [] = true
-are_within count own (f ∷ fs) = list_all (λ k. nat_lt k count) (reads_of_field own f) && are_within count (own + 1) fs
+are_within count own (f ∷ fs) = reads_below count own f && are_within count (own + 1) fs
 
 abbrev pub have_paths : List ℕ → List Field → Bool
 have_paths root fields = list_all (λ f. is_path root f.path) fields
+
+abbrev pub PathsDiffer : List Field → Type 0
+PathsDiffer fields = AllPairs (λ a b. a.path ≢ b.path) fields
+
+abbrev pub LacksPath : List ℕ → List Field → Type 0
+LacksPath path fields = All (λ f. path ≢ f.path) fields

@@ -3,3 +3,4 @@ pub mod Paths
 pub mod Fields
 pub mod Order
 pub mod Forms
+pub mod FormDefs

@@ -37,11 +37,7 @@ fn push_all_reads(exprs: &[Expr], own: u64, numbers: &mut Vec<u64>) -> Result<()
     Ok(())
 }
 
-pub fn push_reads_of(
-    expr: &Option<Expr>,
-    own: u64,
-    numbers: &mut Vec<u64>,
-) -> Result<(), NoMemory>
+pub fn push_reads_of(expr: &Option<Expr>, own: u64, numbers: &mut Vec<u64>) -> Result<(), NoMemory>
     ensures { OnOk result (numbers.new.items ≡ numbers.old.items ++ reads_of own expr.now) }
 {
     match expr {

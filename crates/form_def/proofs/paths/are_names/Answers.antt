@@ -8,6 +8,8 @@ returns-then-not-is_local_name c =
     (sym c.is_local_name.ensures ∙ c.if-not-is_local_name.true) c.loop-name.invariant.0
 
 pub loop-name-preserved : goal.loop-name-preserved
-loop-name-preserved c =
-    (names_go_on c.loop-name.rest.now c.in-Some.name.now c.in-Some.behind.now c.args.path.now c.in-Some.ensures.parts
-    (sym c.is_local_name.ensures ∙ c.if-not-is_local_name.false) c.loop-name.invariant.0, search rules)
+loop-name-preserved c = (
+  names_go_on c.loop-name.rest.now c.in-Some.name.now c.in-Some.behind.now c.args.path.now c.in-Some.ensures.parts
+      (sym c.is_local_name.ensures ∙ c.if-not-is_local_name.false) c.loop-name.invariant.0,
+  search rules,
+)
