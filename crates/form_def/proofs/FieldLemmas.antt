@@ -1,9 +1,8 @@
 -- Fields one after the other: paths that differ, and numbers that are placed.
-use Rattle.std.specs.Prelude.{ℕ, zero, suc, ◌<◌, ◌≤◌, ◌+◌, ◌≡◌, ◌≢◌, ◌↔◌, IsTrue, Bool, true, false, not, ◌&&◌, ◌||◌, nat_lt, nat_eq, List, [], ◌∷◌, length, AllPairs, slice_index, slice_set, slice_get, unwrap_or, refl}
-use Rattle.std.specs.List.{All, list_all, list_any, slice_index_or}
-use Rattle.std.proofs.Common.{ap, sym, subst, ◌∙◌, eqb-true, ltb-true, get_or-set_same, get_or-set_other, arith, eqb, set, get_or, rules}
-use Rattle.std.proofs.lemmas.Bool.{ne_eqb, eqb-false, false≢true}
-use Rattle.std.proofs.lemmas.Grind.{common_steps}
+use Rattle.std.specs.Prelude.{ℕ, suc, ◌<◌, ◌≡◌, ◌≢◌, ◌↔◌, IsTrue, Bool, true, false, not, ◌&&◌, nat_lt, List, [], ◌∷◌, length, slice_set, refl}
+use Rattle.std.specs.List.{list_all}
+use Rattle.std.proofs.Common.{ap, sym, subst, ◌∙◌, eqb-true, ltb-true, get_or-set_same, get_or-set_other, arith, eqb, set}
+use Rattle.std.proofs.lemmas.Bool.{eqb-false, false≢true}
 use Rattle.std.proofs.lemmas.List.Kept.{AllPairs-cons}
 use Rattle.form_def.specs.declared.field.Field.{Field}
 use Rattle.form_def.specs.Fields.{PathsDiffer, LacksPath}

@@ -1,7 +1,7 @@
 -- Paths, a name at a time.
-use Rattle.std.specs.Prelude.{ℕ, ◌<◌, ◌≤◌, ◌-◌, ◌+◌, Bool, true, false, ◌&&◌, ◌||◌, ◌≡◌, ◌≢◌, List, [], ◌∷◌, ◌++◌, length, take, not, count_by, MatchOption, IfSome, Option, Some, None, refl}
-use Rattle.std.specs.List.{slice_split, suffix_len}
-use Rattle.std.proofs.Common.{ap, sym, ◌∙◌, arith, get_or, rules, eqb, lit<}
+use Rattle.std.specs.Prelude.{ℕ, ◌<◌, ◌≤◌, ◌-◌, ◌+◌, Bool, true, false, ◌&&◌, ◌≡◌, ◌≢◌, List, [], ◌∷◌, length, take, not, count_by, MatchOption, IfSome, Option, Some, None, refl}
+use Rattle.std.specs.List.{suffix_len}
+use Rattle.std.proofs.Common.{ap, sym, ◌∙◌, arith, get_or, eqb, lit<}
 use Rattle.std.proofs.lemmas.Bool.{ne_eqb}
 use Rattle.std.proofs.lemmas.List.Elements.{All-from_get_or}
 use Rattle.std.proofs.lemmas.List.Splits.{slice_split_none, slice_split_at, length-slice_split}

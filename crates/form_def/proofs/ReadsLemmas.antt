@@ -5,7 +5,7 @@ use Rattle.std.proofs.Common.{ap, sym, ◌∙◌}
 use Rattle.form_def.specs.declared.expr.Func.{Func}
 use Rattle.form_def.specs.declared.expr.Op.{Op}
 use Rattle.form_def.specs.declared.expr.Expr.{Expr, fold-roll-Expr}
-use Rattle.form_def.specs.declared.expr.Expr.TheVariants.{Number, Words, Own, FieldAt, Column, Item, Call, Pair, Negative, rolls-Number, rolls-Words, rolls-Own, rolls-FieldAt, rolls-Column, rolls-Item, rolls-Call, rolls-Pair, rolls-Negative}
+use Rattle.form_def.specs.declared.expr.Expr.TheVariants.{Own, FieldAt, Item, Call, Pair, Negative, rolls-Own, rolls-FieldAt, rolls-Item, rolls-Call, rolls-Pair, rolls-Negative}
 use Rattle.form_def.specs.declared.expr.Expr.TheOpen.{Expr-F}
 use Rattle.form_def.specs.Reads.{reads, reads_with_parts}
 

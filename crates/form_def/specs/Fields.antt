@@ -1,5 +1,5 @@
 -- The fields of a form, by their numbers in document order: which is whose parent, and what each reads.
-use Rattle.std.specs.Prelude.{ℕ, ◌≢◌, AllPairs, ◌+◌, Bool, true, ◌&&◌, nat_lt, List, [], ◌∷◌, ◌++◌, Option, Some, None, length, map, position}
+use Rattle.std.specs.Prelude.{ℕ, ◌≢◌, AllPairs, ◌+◌, Bool, true, ◌&&◌, nat_lt, List, [], ◌∷◌, ◌++◌, Option, map, position}
 use Rattle.std.specs.List.{list_all, All}
 use Rattle.std.specs.Str.{bytes_eq}
 use Rattle.form_def.specs.declared.field.Field.{Field}

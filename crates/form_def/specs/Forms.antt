@@ -1,6 +1,5 @@
 -- What every form keeps, and what is refused because a form would lack it.
-use Rattle.std.specs.Prelude.{◌≡◌, ◌≢◌, ℕ, Bool, true, false, List, AllPairs, length}
-use Rattle.form_def.specs.declared.field.Field.{Field}
+use Rattle.std.specs.Prelude.{◌≡◌, true, false, length}
 use Rattle.form_def.specs.declared.parts.FormParts.{FormParts}
 use Rattle.form_def.specs.declared.parts.FormFault.{FormFault}
 use Rattle.form_def.specs.declared.parts.FormFault.TheVariants.{BadRoot, BadPath, SamePath, OutOfRange, BadOrder, NoMemory}

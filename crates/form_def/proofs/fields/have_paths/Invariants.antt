@@ -1,5 +1,5 @@
-use Rattle.std.proofs.Common.{◌≡◌, ◌↔◌, length}
-use Rattle.form_def.specs.Fields.{PathsDiffer, have_paths}
+use Rattle.std.proofs.Common.{◌≡◌, length}
+use Rattle.form_def.specs.Fields.{have_paths}
 use Rattle.form_def.proofs.fields.have_paths.Given as goal
 
 abbrev pub invariant-loop-rest : goal.invariant-loop-rest

@@ -1,5 +1,3 @@
-use Rattle.std.proofs.Common.{sym, ap, ◌∙◌, subst, ◌↔◌}
-use Rattle.form_def.specs.Fields.{LacksPath}
 use Rattle.form_def.proofs.FieldLemmas.{differ_stop, differ_go_on}
 use Rattle.form_def.proofs.fields.paths_differ.Goals as goal
 

@@ -1,5 +1,5 @@
-use Rattle.std.proofs.Common.{◌≡◌, ◌↔◌, length}
-use Rattle.form_def.specs.Fields.{PathsDiffer, have_paths}
+use Rattle.std.proofs.Common.{◌↔◌, length}
+use Rattle.form_def.specs.Fields.{PathsDiffer}
 use Rattle.form_def.proofs.fields.paths_differ.Given as goal
 
 abbrev pub invariant-loop-first : goal.invariant-loop-first
