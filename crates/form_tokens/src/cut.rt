@@ -19,7 +19,7 @@ fn value_at(chars: &[char]) -> (u64, &[char])
     let mut value = 0;
     let mut left = 15u32;
     let mut rest = chars;
-    while let [c, after @ ..] = rest {
+    while let Some((c, after)) = rest.split_first() {
         if left == 0 {
             return (value, rest);
         }

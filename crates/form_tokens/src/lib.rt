@@ -3,6 +3,8 @@
 
 mod cut;
 mod front;
+#[cfg(test)]
+mod tests;
 mod token;
 
 pub use cut::token_at;
