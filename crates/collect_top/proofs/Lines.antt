@@ -1,7 +1,7 @@
 -- What stands while the lines of a script are answered one after another.
-use Rattle.std.proofs.Common.{◌≡◌, ◌≢◌, ◌⊎◌, ⊎_elim, ℕ, ◌+◌, ◌≤◌, ◌<◌, List, [], ◌∷◌, ◌++◌, true, false, IsTrue, length, drop, Option, Some, None, Result, Ok, Err, inl, inr, refl, ap, sym, ◌∙◌, subst, arith, append_assoc, length-append, map, cond}
+use Rattle.std.proofs.Common.{◌≡◌, ◌≢◌, ⊎_elim, ℕ, ◌+◌, ◌≤◌, List, [], ◌∷◌, ◌++◌, true, false, IsTrue, length, drop, Option, None, Ok, Err, inl, inr, refl, ap, sym, ◌∙◌, subst, arith, append_assoc, length-append, map, cond}
 use Rattle.std.specs.Prelude.{option_to_list}
-use Rattle.std.specs.List.{AllByRecursion, sum_by}
+use Rattle.std.specs.List.{AllByRecursion}
 use Rattle.std.proofs.lemmas.List.{append-nil, drop_at, drop_all}
 use Rattle.std.proofs.lemmas.List.Sums.{sum_by-append}
 use Rattle.field_io.specs.Causes.{Rose}
@@ -10,8 +10,7 @@ use Rattle.entry_form.specs.declared.entry.Entry.TheVariants.{Done}
 use Rattle.entry_form.specs.declared.hand.Hand.TheVariants.{Script}
 use Rattle.entry_codec.specs.Spelling.{spelling}
 use Rattle.device_journal.specs.Frames.{end_of, limit}
-use Rattle.device_core.specs.Crash.{AddsOnly, HasAtLeast}
-use Rattle.device_core.specs.Faults.{IsFull}
+use Rattle.device_core.specs.Crash.{HasAtLeast}
 use Rattle.device_core.specs.Images.{payloads_of}
 use Rattle.device_core.specs.State.{initial}
 use Rattle.device_core.specs.Trail.{DeviceView, IsReady, entries_of}
@@ -24,11 +23,11 @@ use Rattle.collect_text.specs.declared.line.Line.TheVariants.{Skipped, Quit, Not
 use Rattle.collect_top.specs.declared.stop.Stop.{Stop}
 use Rattle.collect_top.specs.declared.stop.Stop.TheVariants as stops
 use Rattle.collect_top.specs.Crash.{Images}
-use Rattle.collect_top.specs.Headline.{End, HasAnswered, AnswersSome, IsFullAt}
+use Rattle.collect_top.specs.Headline.{HasAnswered, AnswersSome, IsFullAt}
 use Rattle.collect_top.specs.Output.{Gained}
 use Rattle.collect_top.specs.Run.{AnswersLines}
 use Rattle.collect_top.specs.Script.{is_quit, up_to_quit, script_lines}
-use Rattle.collect_top.specs.Session.{MayAdd, Gains, Answers, StopsAt, IsStop, IsFullLine, LineAnswered, LineCut, LineStopped, LineStops, Grows, AddsEntries, IsLinesCause, KeepsSink, room_of, room_of_lines}
+use Rattle.collect_top.specs.Session.{MayAdd, Gains, IsStop, IsFullLine, LineAnswered, LineCut, LineStopped, LineStops, Grows, AddsEntries, IsLinesCause, KeepsSink, room_of, room_of_lines}
 use Rattle.collect_top.specs.Transcript.{is_script, of_script, Transcript, AllAnswered, AnsweredUpTo}
 use Rattle.collect_top.proofs.Gains.{gained_then, gained_nothing}
 use Rattle.collect_top.proofs.Transcripts.{transcript_grow, transcript_then}

@@ -1,5 +1,5 @@
 -- A log is a run with no lines, and the lines of its entries behind it.
-use Rattle.std.proofs.Common.{if◌then◌else◌, ◌≡◌, ◌≢◌, ◌⊎◌, ⊎_elim, ℕ, zero, suc, ◌+◌, ◌≤◌, ◌<◌, List, [], ◌∷◌, ◌++◌, IsTrue, Bool, true, false, length, drop, take, filter, Option, Some, None, Ok, Err, inl, inr, refl, ap, sym, ◌∙◌, subst, arith, append_assoc, length-append}
+use Rattle.std.proofs.Common.{if◌then◌else◌, ◌≡◌, ◌≢◌, ⊎_elim, ℕ, zero, suc, ◌+◌, ◌<◌, List, [], ◌∷◌, ◌++◌, IsTrue, Bool, true, false, length, drop, take, Option, Some, None, Ok, Err, inl, refl, ap, sym, ◌∙◌, subst, arith, append_assoc, length-append}
 use Rattle.std.specs.Prelude.{option_to_list, slice_get}
 use Rattle.std.specs.List.{AllByRecursion}
 use Rattle.std.proofs.lemmas.List.{append-nil}
@@ -15,10 +15,10 @@ use Rattle.collect_text.specs.Answers.{printed_entry}
 use Rattle.collect_text.specs.declared.line.Line.{Line}
 use Rattle.collect_top.specs.declared.stop.Stop.{Stop}
 use Rattle.collect_top.specs.declared.stop.Stop.TheVariants as stops
-use Rattle.collect_top.specs.Crash.{Images, LeavesRest}
+use Rattle.collect_top.specs.Crash.{Images}
 use Rattle.collect_top.specs.Headline.{End, AnswersSome, BeginsAt, HasAnsweredFrom, HasLogged, HasLoggedFrom, IsRunCause, Count, Reading}
 use Rattle.collect_top.specs.Log.{log_from, log_text}
-use Rattle.collect_top.specs.Output.{Gained, IsCut}
+use Rattle.collect_top.specs.Output.{Gained}
 use Rattle.collect_top.specs.Run.{LeavesRun, PutsLog}
 use Rattle.collect_top.specs.Session.{KeepsSink}
 use Rattle.collect_top.specs.Transcript.{is_script, of_script, AllAnswered, AnsweredUpTo, Transcript}

@@ -1,5 +1,5 @@
 -- A run over a disk: it isn't opened, or it is and the lines follow.
-use Rattle.std.proofs.Common.{◌≡◌, ◌≢◌, ◌⊎◌, inl, inr, append_assoc, ℕ, suc, ◌+◌, ◌≤◌, ◌<◌, min, List, [], ◌∷◌, ◌++◌, IsTrue, Bool, true, false, length, take, drop, Option, Some, None, Ok, Err, refl, ap, sym, ◌∙◌, subst, arith, length-append}
+use Rattle.std.proofs.Common.{◌≡◌, ◌≢◌, inl, inr, append_assoc, ℕ, suc, ◌+◌, ◌≤◌, ◌<◌, min, List, [], ◌∷◌, ◌++◌, IsTrue, Bool, true, false, length, take, drop, Option, Some, None, Ok, Err, refl, ap, sym, ◌∙◌, subst, arith, length-append}
 use Rattle.std.specs.Prelude.{◌&&◌, IfSome, codes, option_to_list}
 use Rattle.std.specs.Str.{bytes_eq}
 use Rattle.std.proofs.lemmas.Slice.Eq.{bytes_eq-Decides}
@@ -27,10 +27,9 @@ use Rattle.collect_top.specs.Crash.{Images, LeavesEntries, LeavesRest}
 use Rattle.collect_top.specs.Headline.{End, BeginsAt, FitsWithRoom, HasAnswered, HasTold, IsCause, IsKnown, IsLog, IsWhole, IsRun, is_log, is_run, IsOpenedBy, IsRunCause, Count, Reading, own_opening}
 use Rattle.collect_top.specs.Run.{LeavesLines, LeavesRun, LeavesCall}
 use Rattle.collect_top.specs.Script.{most_bytes, script_lines, Taken}
-use Rattle.collect_top.specs.Session.{IsLinesCause, KeepsSink, room_of_lines}
+use Rattle.collect_top.specs.Session.{IsLinesCause, room_of_lines}
 use Rattle.collect_top.specs.Stop.{opening_stop}
 use Rattle.collect_top.specs.Transcript.{is_script}
-use Rattle.collect_top.proofs.Gains.{gained_nothing}
 use Rattle.collect_top.proofs.Lines.{all_join, keeps_sink}
 use Rattle.collect_top.proofs.Steps.{slice_get_end}
 use Rattle.collect_top.proofs.Transcripts.{slice_get-grow}

@@ -1,4 +1,4 @@
-ghost use Rattle.std.specs.Prelude.{All, ◌≡◌, ◌≢◌, ◌<◌, ◌↔◌, false, true, IfOk, IsTrue, length};
+ghost use Rattle.std.specs.Prelude.{All, ◌≡◌, ◌≢◌, ◌↔◌, IfOk, IsTrue, length};
 
 use crate::*;
 use entity_lists::{EntityList, EntityRow, Prop, ServerRow, read_server};

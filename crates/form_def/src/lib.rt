@@ -1,0 +1,18 @@
+//! Forms and the expressions in them: plain data, and what every form keeps.
+#![tactic(auto)]
+
+mod expr;
+mod field;
+mod fields;
+mod form;
+mod order;
+mod parts;
+mod paths;
+mod reads;
+#[cfg(test)]
+mod tests;
+
+pub use expr::{Expr, Func, Op};
+pub use field::{Cell, Choices, EntityDef, Field, InnerTable, Kind, OuterTable};
+pub use form::FormDef;
+pub use parts::{FormFault, FormParts};
