@@ -43,11 +43,11 @@ check "a line that isn't built" 0 '1 not built\n1 settings mode manual autosend 
 rm -f device.journal
 check "modes" 0 '2 ok\n3 ok\n3 settings mode exact autosend off\n4 ok\n' 73 \
     'set mode previous\nset mode exact\nshow settings\nset mode manual\n' run
-check "a journal is gone on with" 0 '5 settings mode manual autosend off\n' 114 'show settings\n' run
+check "a journal is gone on with" 0 '5 settings mode manual autosend off\n' 113 'show settings\n' run
 rm -f device.journal
 check "first run of the log" 0 '2 ok\n2 settings mode manual autosend on\n2 bye\n' 57 \
     'set autosend on\nshow settings\nquit\n' run
-check "the log" 0 '1 script opened\n2 script autosend\n3 script opened\n' 98 'quit\n' log
+check "the log" 0 '1 script opened\n2 script autosend\n3 script opened\n' 97 'quit\n' log
 rm -f device.journal
 check "two words" 2 'fault 2\n' 0 'quit\n' run run
 check "no word" 2 'fault 2\n' 0 'quit\n'
