@@ -7,3 +7,4 @@ pub mod OneReading
 pub mod AllReadings
 pub mod Writing
 pub mod Escaping
+pub mod LocalNames

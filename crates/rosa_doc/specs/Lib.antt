@@ -4,3 +4,4 @@ pub mod Machine
 pub mod Frames
 pub mod Reading
 pub mod Escapes
+pub mod LocalNames

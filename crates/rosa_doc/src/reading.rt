@@ -1,7 +1,8 @@
-ghost use Rattle.std.specs.Prelude.{◌≡◌, ◌+◌, ◌≤◌, length, IfOk, IfErr, encode_utf8_all};
+ghost use Rattle.std.specs.Prelude.{◌≡◌, true, ◌+◌, ◌≤◌, length, IfOk, IfErr, encode_utf8_all};
 ghost use Rattle.std.specs.Str.{chars as chars_of};
 ghost use Rattle.rosa_doc.specs.Documents.{past_mark as mark_past, body_of};
 ghost use Rattle.rosa_doc.specs.Refusals.{IsDoc, Refuses, is_doctype as doctype, longest_document};
+ghost use Rattle.rosa_doc.specs.LocalNames.{has_local_names};
 ghost use Rattle.rosa_doc.specs.Reading.{Stopped, state_of, ended_at, refused_before};
 
 use crate::progress::Progress;
@@ -16,6 +17,7 @@ const LONGEST_DOCUMENT: usize = 262_144;
 pub fn read(alloc: Global, bytes: &[u8]) -> Result<Doc, DocRefused>
     ensures found { IfOk result (λ doc. IsDoc bytes.now doc) }
     ensures refused { IfErr result (λ refusal. Refuses bytes.now refusal) }
+    ensures names { IfOk result (λ doc. has_local_names doc.root ≡ true) }
 {
     if bytes.len() > LONGEST_DOCUMENT {
         return Err(DocRefused::TooLong {
