@@ -1,0 +1,3 @@
+pub mod TreeLemmas
+pub mod PrimaryLemmas
+pub mod ControlLemmas

@@ -1,0 +1,7 @@
+use Rattle.std.proofs.Common.{◌≡◌, ◌++◌, ℕ, take, length}
+use Rattle.std.specs.List.{flat_map}
+use Rattle.form_outline.specs.Controls.{controls_of}
+use Rattle.form_outline.proofs.controls.+controls.Given as goal
+
+abbrev pub invariant-push_controls-loop-node : goal.invariant-push_controls-loop-node
+invariant-push_controls-loop-node l = l.controls ≡ l.fn.controls ++ controls_of (take l.node-index l.nodes)

@@ -1,0 +1,7 @@
+pub mod Nodes
+pub mod Trees
+pub mod Primary
+pub mod Models
+pub mod Controls
+pub mod Outlines
+pub mod Names
