@@ -1,0 +1,14 @@
+//! Expressions as they are written (XPath 1.0 in a profile): operands and operators as trees, by precedence.
+#![tactic(auto)]
+
+mod expected;
+mod pending;
+mod progress;
+mod reading;
+mod syntax;
+#[cfg(test)]
+mod tests;
+mod words;
+
+pub use reading::{read_expr, read_itemset};
+pub use syntax::{ExprFault, Itemset, Syntax};
