@@ -1,1 +1,4 @@
 pub mod Stacks
+pub mod Columns
+pub mod Tokens
+pub mod Readings

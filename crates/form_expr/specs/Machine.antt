@@ -209,7 +209,7 @@ table_step stack _ = None
 -- the column of a path of one name
 abbrev pub column_of_path : List ℕ → Option (List ℕ)
 column_of_path [] = None
-column_of_path (slash ∷ name) = when ((slash == 47) && list_all is_no_slash name) name
+column_of_path (slash ∷ name) = if slash == 47 then when (list_all is_no_slash name) name else None
 
 abbrev pub column_of : Token → Option (List ℕ)
 column_of (tok.Absolute path) = column_of_path path

@@ -1,5 +1,7 @@
 ghost use Rattle.std.specs.Prelude.{◌≡◌, IfOk, reverse, option_map, Some, ◌∷◌, ◌++◌, []};
+ghost use Rattle.std.specs.List.{list_all};
 ghost use Rattle.rosa_pieces.specs.Reading.{Gives};
+ghost use Rattle.form_expr.specs.Words.{is_no_slash as no_slash};
 ghost use Rattle.form_expr.specs.Machine.{is_in_itemset as in_itemset, column_of_path as column_in_path, when_alone as whole_alone, outside_step as outside_of, group_step as group_of, closed_call as closed_call_of, next_argument as next_argument_of, when as when_wanted, column_of as column_in, at, behind as behind_of, before_operand as before_of, with_operator as operator_behind, opened_call as call_of, word_step as word_of, name_step as name_of, operand_step as operand_of, close_step as close_of, comma_step as comma_of, bracket_step as bracket_of, end_step as end_of, operator_step as operator_of_step, call_step as call_in_filter, named_step as named_of, is_open as opens, is_close as closes, is_open_bracket as opens_bracket, is_instance as is_word_instance, is_rows as is_path_of_rows, table_step as table_of, value_step as value_of, step_at, step, bound_by, expr_end as expr_ended, itemset_end as itemset_ended};
 ghost use Rattle.form_expr.specs.Reading.{state_of};
 ghost use Rattle.form_expr.specs.declared.syntax.Syntax.TheVariants.{Call};
@@ -363,19 +365,31 @@ fn table_step(stack: Items<Pending>, token: Token) -> Result<Progress, Unread>
     }
 }
 
+/// Whether no slash is among them.
+fn lacks_slash(bytes: &[u8]) -> bool
+    ensures { result ≡ list_all no_slash bytes.now }
+{
+    let mut rest = bytes;
+    while let [b, others @ ..] = rest {
+        if *b == b'/' {
+            return false;
+        }
+        rest = others;
+    }
+    true
+}
+
 /// The column of a path of one name.
 fn column_of_path(alloc: Global, path: &Text) -> Result<Text, Unread>
     ensures { Gives (λ column. column) result (column_in_path path.now) }
 {
-    match path.as_str().strip_prefix('/') {
-        Some(name) => {
-            if name.contains('/') {
-                return Err(Unread::Absent);
-            }
-            Ok(Text::from_string(String::from_str(alloc, name)?))
-        }
-        None => Err(Unread::Absent),
+    let Some(name) = path.as_str().strip_prefix('/') else {
+        return Err(Unread::Absent);
+    };
+    if lacks_slash(name.as_bytes()) {
+        return Ok(Text::from_string(String::from_str(alloc, name)?));
     }
+    Err(Unread::Absent)
 }
 
 fn column_of(alloc: Global, token: &Token) -> Result<Text, Unread>
@@ -450,8 +464,9 @@ impl Progress {
     pub fn into_expr(self, alloc: Global) -> Result<Option<Syntax>, NoMemory>
         ensures { IfOk result (λ whole. whole ≡ expr_ended (state_of self)) }
     {
-        match self.expected {
-            Expected::Operator(operand) => alone(alloc, self.stack, operand),
+        let Progress { stack, expected } = self;
+        match expected {
+            Expected::Operator(operand) => alone(alloc, stack, operand),
             _ => Ok(None),
         }
     }
@@ -460,10 +475,11 @@ impl Progress {
     pub fn into_itemset(self) -> Option<Itemset>
         ensures { result ≡ itemset_ended (state_of self) }
     {
-        if !is_in_itemset(&self.stack) {
+        let Progress { stack, expected } = self;
+        if !is_in_itemset(&stack) {
             return None;
         }
-        match self.expected {
+        match expected {
             Expected::FilterOpening(table) => Some(Itemset {
                 table,
                 filter: None,
