@@ -1,7 +1,6 @@
 use crate::*;
 use form_def::{Func, Op};
 use std::alloc::Global;
-use std::process::Abort;
 use std::test::Fail;
 
 fn name_of(func: Func) -> &'static str {
@@ -178,11 +177,202 @@ static EXPRESSIONS: [(&str, &str); 51] = [
     ),
 ];
 
+static REFUSED: [(&str, &str); 87] = [
+    ("", "at 0"),
+    ("   ", "at 3"),
+    ("1.5", "at 1"),
+    (". >= 1.5", "at 6"),
+    ("/data/dead = ", "at 13"),
+    ("1234567890123456", "at 15"),
+    ("#", "at 0"),
+    ("1 + #", "at 4"),
+    ("'\u{e9}' #", "at 5"),
+    ("\u{a0}1", "at 0"),
+    ("'a", "at 0"),
+    ("1 = \"a", "at 4"),
+    ("1 ! 2", "at 2"),
+    ("1 2", "at 2"),
+    ("1 'a'", "at 2"),
+    ("1 (", "at 2"),
+    ("a", "at 0"),
+    ("1 + a", "at 4"),
+    ("and", "at 0"),
+    ("1 and", "at 5"),
+    ("1 mod mod", "at 6"),
+    ("1 mod2", "at 2"),
+    (")", "at 0"),
+    ("(", "at 1"),
+    ("()", "at 1"),
+    ("(1", "at 2"),
+    ("(1))", "at 3"),
+    ("(1]", "at 2"),
+    ("[1]", "at 0"),
+    ("1[", "at 1"),
+    ("*", "at 0"),
+    ("1 + * 2", "at 4"),
+    ("-", "at 1"),
+    ("1 = = 2", "at 4"),
+    ("1, 2", "at 1"),
+    ("(1, 2)", "at 2"),
+    ("foo(1)", "at 0"),
+    ("Concat(1)", "at 0"),
+    ("a:b", "at 0"),
+    ("true", "at 4"),
+    ("true 1", "at 5"),
+    ("true(", "at 5"),
+    ("true(1)", "at 5"),
+    ("false(,)", "at 6"),
+    ("not()", "at 4"),
+    ("not(1,", "at 5"),
+    ("not(1", "at 5"),
+    ("selected(1)", "at 10"),
+    ("selected(1, 2, 3)", "at 13"),
+    ("concat()", "at 7"),
+    ("concat(1,)", "at 9"),
+    ("if(1, 2)", "at 7"),
+    ("if(1,2,3,4)", "at 8"),
+    ("coalesce(1)", "at 10"),
+    ("string-length(1,2)", "at 15"),
+    ("count-selected(,)", "at 15"),
+    ("..", "at 1"),
+    ("../", "at 1"),
+    ("../a/../b", "at 4"),
+    ("./a", "at 1"),
+    ("/a/", "at 2"),
+    ("//a", "at 0"),
+    ("/a/@b/c", "at 5"),
+    ("@a", "at 0"),
+    ("instance", "at 8"),
+    ("instance(1)", "at 9"),
+    ("instance('t',1)", "at 12"),
+    ("instance('t')", "at 13"),
+    ("instance('t')/root/items[1]/c", "at 13"),
+    ("instance('t')/root/item", "at 23"),
+    ("instance('t')/root/item/c", "at 13"),
+    ("instance('t')/root/item = 1", "at 24"),
+    ("instance('t')/root/item[]/c", "at 24"),
+    ("instance('t')/root/item[1", "at 25"),
+    ("instance('t')/root/item[1)", "at 25"),
+    ("instance('t')/root/item[1]", "at 26"),
+    ("instance('t')/root/item[1]/a/b", "at 26"),
+    ("instance('t')/root/item[1]/@a", "at 26"),
+    ("instance('t')/root/item[1]/a/@b", "at 26"),
+    ("instance('t')/root/item[1] c", "at 27"),
+    ("instance('t')/root/item[.]/c", "at 24"),
+    ("instance('t')/root/item[../a]/c", "at 24"),
+    (
+        "instance('t')/root/item[instance('u')/root/item[1]/c]/c",
+        "at 32",
+    ),
+    ("instance('t')/root/item[foo(1)]/c", "at 27"),
+    ("instance('t')/root/item[not(1,", "at 29"),
+    ("instance('t')/root/item[a b]/c", "at 26"),
+    ("instance('t')/root/item[a/b]/c", "at 25"),
+];
+
+static ITEMSETS: [(&str, &str); 16] = [
+    ("instance('t')/root/item", "t"),
+    ("instance('t')/root/item[a = 1]", "t[(@a = 1)]"),
+    (" instance ( 't' ) /root/item [ -a ] ", "t[-@a]"),
+    ("", "at 0"),
+    ("1", "at 0"),
+    ("(instance('t')/root/item)", "at 0"),
+    ("instances('t')/root/item", "at 0"),
+    ("instance", "at 8"),
+    ("instance('t')", "at 13"),
+    ("instance('t')/root/item/a", "at 13"),
+    ("instance('t')/root/item + 1", "at 24"),
+    ("instance('t')/root/item[.]", "at 24"),
+    ("instance('t')/root/item[1", "at 25"),
+    ("instance('t')/root/item[1]/a", "at 26"),
+    ("instance('t')/root/item[1] + 1", "at 27"),
+    ("instance('t')/root/item[1][2]", "at 26"),
+];
+
 #[test]
 fn expressions_are_told(rt: HostRuntime) -> Result<(), Fail> {
-    let alloc = Global;
+    let alloc = rt.alloc();
     for (text, tree) in &EXPRESSIONS {
-        assert_eq!(rt; told(alloc, text)?.as_str(), *tree);
+        assert_eq!(rt; told(alloc, text)?.as_str(), *tree, "{text}");
     }
+    Ok(())
+}
+
+#[test]
+fn other_texts_are_refused_at_their_places(rt: HostRuntime) -> Result<(), Fail> {
+    let alloc = rt.alloc();
+    for (text, place) in &REFUSED {
+        assert_eq!(rt; told(alloc, text)?.as_str(), *place, "{text}");
+    }
+    Ok(())
+}
+
+#[test]
+fn itemsets_are_told(rt: HostRuntime) -> Result<(), Fail> {
+    let alloc = rt.alloc();
+    for (text, want) in &ITEMSETS {
+        assert_eq!(rt; told_itemset(alloc, text)?.as_str(), *want, "{text}");
+    }
+    Ok(())
+}
+
+/// So many of one text, and another between as many of a third.
+fn within(
+    alloc: Global,
+    times: usize,
+    before: &str,
+    inside: &str,
+    after: &str,
+) -> Result<String, Fail> {
+    let mut text = String::new(alloc);
+    for _ in 0..times {
+        text.push_str(before)?;
+    }
+    text.push_str(inside)?;
+    for _ in 0..times {
+        text.push_str(after)?;
+    }
+    Ok(text)
+}
+
+// How many parentheses stand round the text, the text, and what is told.
+static NESTED: [(usize, &str, &str); 15] = [
+    (32, "7", "7"),
+    (33, "7", "at 32"),
+    (32, "-/a", "-/a"),
+    (31, "true()", "true()"),
+    (32, "true()", "at 32"),
+    (32, "not", "at 32"),
+    (31, "not((1))", "at 35"),
+    (31, "instance('t')/root/item[a]/b", "t[@a]/b"),
+    (32, "instance('t')/root/item[a]/b", "at 32"),
+    (31, "instance('t')/root/item[(a)]/b", "at 55"),
+    (30, "instance('t')/root/item[(a)]/b", "t[@a]/b"),
+    (31, "instance('t')/root/item[not(a)]/b", "at 58"),
+    (31, "instance('t')/root/item[not]/b", "t[@not]/b"),
+    (31, "instance('t')/root/item[1)", "at 56"),
+    (30, "concat((1), (2))", "concat(1;2;)"),
+];
+
+#[test]
+fn nesting_is_bounded(rt: HostRuntime) -> Result<(), Fail> {
+    let alloc = rt.alloc();
+    for (times, inside, want) in &NESTED {
+        let text = within(alloc, *times, "(", inside, ")")?;
+        assert_eq!(rt; told(alloc, text.as_str())?.as_str(), *want, "{text}");
+    }
+    Ok(())
+}
+
+#[test]
+fn length_is_bounded(rt: HostRuntime) -> Result<(), Fail> {
+    let alloc = rt.alloc();
+    let longest = within(alloc, 999, " ", "77", " ")?;
+    let longer = within(alloc, 1_000, " ", "7", " ")?;
+    let longer_still = within(alloc, 1_000, "-", ")", "-")?;
+    assert_eq!(rt; told(alloc, longest.as_str())?.as_str(), "77");
+    assert_eq!(rt; told(alloc, longer.as_str())?.as_str(), "at 2000");
+    assert_eq!(rt; told(alloc, longer_still.as_str())?.as_str(), "at 2000");
+    assert_eq!(rt; told_itemset(alloc, longer.as_str())?.as_str(), "at 2000");
     Ok(())
 }
