@@ -2,3 +2,4 @@ pub mod Stacks
 pub mod Columns
 pub mod Tokens
 pub mod Readings
+pub mod Trees
