@@ -1,0 +1,5 @@
+pub mod Stacks
+pub mod Columns
+pub mod Tokens
+pub mod Readings
+pub mod Trees

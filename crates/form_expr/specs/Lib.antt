@@ -1,0 +1,5 @@
+pub mod Words
+pub mod Precedence
+pub mod Grammar
+pub mod Machine
+pub mod Reading

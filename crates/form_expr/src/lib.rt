@@ -1,0 +1,16 @@
+//! Expressions as they are written (XPath 1.0 in a profile): operands and operators as trees, by precedence.
+#![tactic(auto)]
+
+mod expected;
+mod laws;
+mod pending;
+mod progress;
+mod reading;
+mod syntax;
+#[cfg(test)]
+mod tests;
+mod words;
+
+pub use laws::operands_have_a_tree;
+pub use reading::{read_expr, read_itemset};
+pub use syntax::{ExprFault, Itemset, Syntax};
