@@ -1,13 +1,13 @@
-// A library with one function.
+//! An order of a form's fields in which each comes behind those that it depends on.
 #![tactic(auto)]
 
-ghost use Rattle.std.specs.Prelude.{◌≡◌};
-ghost use Rattle.form_order.specs.Echo.{echo_of};
+mod fault;
+mod order;
+mod reach;
+mod rows;
+#[cfg(test)]
+mod tests;
+mod walk;
 
-// The `ensures` clause is the contract: what `echo` returns is `echo_of` of its argument, a definition
-// in `specs/Echo.antt`, which a caller's clause can cite too.
-pub fn echo(x: usize) -> usize
-    ensures { result ≡ echo_of x }
-{
-    x
-}
+pub use fault::OrderFault;
+pub use order::order_of;
