@@ -6,7 +6,7 @@ use Rattle.std.proofs.lemmas.Bool.{eqb-false, false≢true}
 use Rattle.std.proofs.lemmas.List.Kept.{AllPairs-cons}
 use Rattle.form_def.specs.declared.field.Field.{Field}
 use Rattle.form_def.specs.Fields.{PathsDiffer, LacksPath}
-use Rattle.form_def.specs.Order.{is_among, is_marked, may_come, are_ordered, dependencies_at}
+use Rattle.form_def.specs.Order.{is_among, is_marked, may_come, are_ordered}
 
 differ_first : (f : Field) (fs : List Field) → PathsDiffer (f ∷ fs) → LacksPath f.path fs
 differ_first f fs differ = λ k d within. differ 0 (suc k) d (omega arith) (omega arith)
@@ -30,8 +30,8 @@ list_all-same : (p q : ℕ → Bool) (xs : List ℕ) → ((x : ℕ) → p x ≡ 
 list_all-same p q [] same = refl
 list_all-same p q (x ∷ xs) same = rw (same x, list_all-same p q xs same)
 
-pub may_come-same : (fields : List Field) (p q : ℕ → Bool) (number : ℕ) → ((x : ℕ) → p x ≡ q x) → may_come fields p number ≡ may_come fields q number
-may_come-same fields p q number same = rw (same number, list_all-same p q (dependencies_at fields number) same)
+pub may_come-same : (count : ℕ) (needs : ℕ → List ℕ) (p q : ℕ → Bool) (number : ℕ) → ((x : ℕ) → p x ≡ q x) → may_come count needs p number ≡ may_come count needs q number
+may_come-same count needs p q number same = rw (same number, list_all-same p q (needs number) same)
 
 marked_at : (marks : List Bool) (number : ℕ) (before : List ℕ) → number < length marks → ((j : ℕ) → is_marked marks j ≡ is_among before j)
     → (j : ℕ) (b : Bool) → eqb number j ≡ b → is_marked (set marks number true) j ≡ is_among (number ∷ before) j
@@ -43,17 +43,17 @@ pub is_marked-set : (marks : List Bool) (number : ℕ) (before : List ℕ) → n
     → (j : ℕ) → is_marked (slice_set marks number true) j ≡ is_among (number ∷ before) j
 is_marked-set marks number before within same j = marked_at marks number before within same j (eqb number j) refl
 
-pub are_ordered-more : (fields : List Field) (before : List ℕ) (marks : List Bool) (number : ℕ) (numbers rest all : List ℕ)
-    → ((j : ℕ) → is_marked marks j ≡ is_among before j) → rest ≡ number ∷ numbers → may_come fields (is_marked marks) number ≡ true
-    → are_ordered fields before rest ≡ are_ordered fields [] all → are_ordered fields (number ∷ before) numbers ≡ are_ordered fields [] all
-are_ordered-more fields before marks number numbers rest all same split may so_far =
-    let here : may_come fields (is_among before) number ≡ true = sym (may_come-same fields (is_marked marks) (is_among before) number same) ∙ may in
-    sym (ap (λ r. are_ordered fields before r) split ∙ ap (λ b. b && are_ordered fields (number ∷ before) numbers) here) ∙ so_far
+pub are_ordered-more : (count : ℕ) (needs : ℕ → List ℕ) (before : List ℕ) (marks : List Bool) (number : ℕ) (numbers rest all : List ℕ)
+    → ((j : ℕ) → is_marked marks j ≡ is_among before j) → rest ≡ number ∷ numbers → may_come count needs (is_marked marks) number ≡ true
+    → are_ordered count needs before rest ≡ are_ordered count needs [] all → are_ordered count needs (number ∷ before) numbers ≡ are_ordered count needs [] all
+are_ordered-more count needs before marks number numbers rest all same split may so_far =
+    let here : may_come count needs (is_among before) number ≡ true = sym (may_come-same count needs (is_marked marks) (is_among before) number same) ∙ may in
+    sym (ap (λ r. are_ordered count needs before r) split ∙ ap (λ b. b && are_ordered count needs (number ∷ before) numbers) here) ∙ so_far
 
 and-first : (a b : Bool) → (a && b) ≡ true → a ≡ true
 and-first true b e = refl
 and-first false b e = e
 
-pub may_come_within : (fields : List Field) (p : ℕ → Bool) (number : ℕ) → may_come fields p number ≡ true → number < length fields
-may_come_within fields p number may =
-    ltb-true number (length fields) (and-first (nat_lt number (length fields)) (not (p number)) (and-first (nat_lt number (length fields) && not (p number)) _ may))
+pub may_come_within : (count : ℕ) (needs : ℕ → List ℕ) (p : ℕ → Bool) (number : ℕ) → may_come count needs p number ≡ true → number < count
+may_come_within count needs p number may =
+    ltb-true number count (and-first (nat_lt number count) (not (p number)) (and-first (nat_lt number count && not (p number)) _ may))

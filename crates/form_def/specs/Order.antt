@@ -17,18 +17,18 @@ dependencies_at fields number = option_map_or (λ f. dependencies fields number 
 abbrev pub is_among : List ℕ → ℕ → Bool
 is_among numbers number = list_any (λ k. k == number) numbers
 
--- the field of this number isn't placed yet, and all that it depends on is
-abbrev pub may_come : List Field → (ℕ → Bool) → ℕ → Bool
-may_come fields is_placed number = nat_lt number (length fields) && not (is_placed number) && list_all is_placed (dependencies_at fields number)
+-- of so many fields, the one of this number isn't placed yet, and all that it needs is
+abbrev pub may_come : ℕ → (ℕ → List ℕ) → (ℕ → Bool) → ℕ → Bool
+may_come count needs is_placed number = nat_lt number count && not (is_placed number) && list_all is_placed (needs number)
 
 -- these may come one after the other behind those
-abbrev pub are_ordered : List Field → List ℕ → List ℕ → Bool
-are_ordered fields before [] = true
-are_ordered fields before (number ∷ others) = may_come fields (is_among before) number && are_ordered fields (number ∷ before) others
+abbrev pub are_ordered : ℕ → (ℕ → List ℕ) → List ℕ → List ℕ → Bool
+are_ordered count needs before [] = true
+are_ordered count needs before (number ∷ others) = may_come count needs (is_among before) number && are_ordered count needs (number ∷ before) others
 
 -- every field once, each behind all that it depends on
 abbrev pub is_order : List Field → List ℕ → Bool
-is_order fields order = (length order == length fields) && are_ordered fields [] order
+is_order fields order = (length order == length fields) && are_ordered (length fields) (dependencies_at fields) [] order
 
 -- the numbers that are marked
 abbrev pub is_marked : List Bool → ℕ → Bool

@@ -14,5 +14,7 @@ mod tests;
 
 pub use expr::{Expr, Func, Op};
 pub use field::{Cell, Choices, EntityDef, Field, InnerTable, Kind, OuterTable};
+pub use fields::are_within;
 pub use form::FormDef;
+pub use order::dependencies;
 pub use parts::{FormFault, FormParts};

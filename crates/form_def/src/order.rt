@@ -1,6 +1,6 @@
 ghost use Rattle.std.specs.Prelude.{◌≡◌, IfOk, length, List, ℕ};
 ghost use Rattle.std.specs.List.{list_all};
-ghost use Rattle.form_def.specs.Order.{dependencies as dependencies_of, may_come, is_order, is_marked};
+ghost use Rattle.form_def.specs.Order.{dependencies as dependencies_of, dependencies_at, may_come, is_order, is_marked};
 
 use crate::field::Field;
 use crate::fields::parent_of;
@@ -20,8 +20,9 @@ fn are_marked(marks: &[bool], numbers: &[u64]) -> bool
     numbers.iter().all(|number| is_marked(marks, *number))
 }
 
-/// The numbers of the fields that a field depends on.
-fn dependencies(
+/// The numbers of the fields that a field depends on: its parent, and what its relevance and its
+/// calculation read.
+pub fn dependencies(
     alloc: Global,
     fields: &[Field],
     own: u64,
@@ -40,7 +41,7 @@ fn dependencies(
 
 /// Whether the field of this number may come next behind those that are marked.
 fn may_come(alloc: Global, fields: &[Field], placed: &[bool], number: u64) -> Result<bool, NoMemory>
-    ensures { IfOk result (λ may. may ≡ may_come fields.now (is_marked placed.now) number) }
+    ensures { IfOk result (λ may. may ≡ may_come (length fields.now) (dependencies_at fields.now) (is_marked placed.now) number) }
 {
     let Some(field) = fields.get(number as usize) else {
         return Ok(false);

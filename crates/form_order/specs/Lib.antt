@@ -1,0 +1,4 @@
+pub mod Cycles
+pub mod Rows
+pub mod Walks
+pub mod Reached
