@@ -18,3 +18,4 @@ pub use fields::are_within;
 pub use form::FormDef;
 pub use order::dependencies;
 pub use parts::{FormFault, FormParts};
+pub use paths::parent_path;

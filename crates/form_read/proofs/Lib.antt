@@ -1,0 +1,4 @@
+pub mod TellingLemmas
+pub mod TextLemmas
+pub mod PathLemmas
+pub mod ResolvedLemmas

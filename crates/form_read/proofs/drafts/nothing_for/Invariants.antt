@@ -1,0 +1,6 @@
+use Rattle.std.proofs.Common.{◌≡◌, ◌++◌, ℕ, take, map, length, List, [], Some, None, Ok, Err, false}
+use Rattle.std.specs.List.{flat_map}
+use Rattle.form_read.proofs.drafts.nothing_for.Given as goal
+
+abbrev pub invariant-loop-slot : goal.invariant-loop-slot
+invariant-loop-slot g l = l.items ≡ map (λ s. None) (take l._slot-index l.slots)

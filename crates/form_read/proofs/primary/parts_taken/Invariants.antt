@@ -1,0 +1,10 @@
+use Rattle.std.proofs.Common.{◌≡◌, ◌++◌, ℕ, take, map, length, List, [], Some, None, Ok, Err, false}
+use Rattle.std.specs.List.{flat_map}
+use Rattle.form_read.specs.Primary.{parts_taken, nothing_seen}
+use Rattle.form_read.proofs.primary.parts_taken.Given as goal
+
+abbrev pub invariant-loop-part : goal.invariant-loop-part
+invariant-loop-part l = parts_taken l.root l.seen l.rest ≡ parts_taken l.root nothing_seen l.parts
+
+abbrev pub decreases-loop-part : goal.decreases-loop-part
+decreases-loop-part l = length l.rest

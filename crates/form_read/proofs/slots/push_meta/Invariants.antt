@@ -1,0 +1,10 @@
+use Rattle.std.proofs.Common.{◌≡◌, ◌++◌, ℕ, take, map, length, List, [], Some, None, Ok, Err, false}
+use Rattle.std.specs.List.{flat_map}
+use Rattle.form_read.specs.Slots.{meta_slots}
+use Rattle.form_read.proofs.slots.push_meta.Given as goal
+
+abbrev pub invariant-loop-part : goal.invariant-loop-part
+invariant-loop-part l = l.slots ++ meta_slots l.has_entity l.rest ≡ l.fn.slots ++ meta_slots false l.parts
+
+abbrev pub decreases-loop-part : goal.decreases-loop-part
+decreases-loop-part l = length l.rest

@@ -1,0 +1,10 @@
+pub mod Lists
+pub mod Refusals
+pub mod Slots
+pub mod Paths
+pub mod Expressions
+pub mod Primary
+pub mod Binds
+pub mod Tables
+pub mod Controls
+pub mod Drafts
