@@ -13,7 +13,7 @@ use Rattle.rosa_doc.specs.declared.tree.Node.TheFolds.{fold_out-Node}
 use Rattle.rosa_doc.specs.declared.tree.Node.TheOpen.{Node-F}
 use Rattle.rosa_doc.specs.declared.tree.Node.TheVariants.{Child, Words, rolls-Child, rolls-Words}
 use Rattle.rosa_doc.specs.LocalNames.{spells_local_name, element_with_children, node_with_element, has_local_names, node_has_local_names}
-use Rattle.rosa_doc.proofs.LocalNames.{has_local_names-Element, has_local_names-Child, has_local_names-Words}
+use Rattle.rosa_doc.proofs.LocalNames.{both_hold, has_local_names-Element, has_local_names-Child, has_local_names-Words}
 use Rattle.form_def.specs.Paths.{is_name, is_path}
 use Rattle.form_outline.specs.declared.outline.PrimaryField.{PrimaryField}
 use Rattle.form_outline.specs.declared.outline.PrimaryPart.{PrimaryPart}
@@ -31,16 +31,13 @@ use Rattle.form_outline.proofs.PrimaryLemmas.{parts_of-Child, parts_of-Words}
 
 -- ---- what holds of each item of a list
 
-joined : {A : Type 0} (p : A → Bool) (xs ys : List A) → list_all p xs ≡ true → list_all p ys ≡ true → list_all p (xs ++ ys) ≡ true
-joined p xs ys h k = list_all-append p xs ys ∙ and_from (list_all p xs) (list_all p ys) h k
-
 of_each : {A B : Type 0} (p : B → Bool) (q : A → Bool) (f : A → List B) → ((x : A) → q x ≡ true → list_all p (f x) ≡ true) → (xs : List A) → list_all q xs ≡ true → list_all p (flat_map f xs) ≡ true
 of_each p q f each [] h = refl
-of_each p q f each (x ∷ xs) h = let both = and_parts (q x) (list_all q xs) h in joined p (f x) (flat_map f xs) (each x both.0) (of_each p q f each xs both.1)
+of_each p q f each (x ∷ xs) h = let both = and_parts (q x) (list_all q xs) h in both_hold p (f x) (flat_map f xs) (each x both.0) (of_each p q f each xs both.1)
 
 seven_hold : {A : Type 0} (p : A → Bool) (a b c d e f g : List A) → list_all p a ≡ true → list_all p b ≡ true → list_all p c ≡ true → list_all p d ≡ true → list_all p e ≡ true → list_all p f ≡ true → list_all p g ≡ true
     → list_all p (a ++ b ++ c ++ d ++ e ++ f ++ g) ≡ true
-seven_hold p a b c d e f g ha hb hc hd he hf hg = joined p _ g (joined p _ f (joined p _ e (joined p _ d (joined p _ c (joined p a b ha hb) hc) hd) he) hf) hg
+seven_hold p a b c d e f g ha hb hc hd he hf hg = both_hold p _ g (both_hold p _ f (both_hold p _ e (both_hold p _ d (both_hold p _ c (both_hold p a b ha hb) hc) hd) he) hf) hg
 
 of_option : {A B : Type 0} (p : B → Bool) (P : A → Type 0) (f : A → List B) → ((x : A) → P x → list_all p (f x) ≡ true) → (o : Option A) → IfSome o P → list_all p (option_map_or f o []) ≡ true
 of_option p P f each None h = refl
@@ -126,7 +123,7 @@ at_nodes : (ns : List ((n : Node) × Parts n)) → PartsBelow (map (λ p. p.0) n
 at_nodes [] root path h leads = refl
 at_nodes (p ∷ ps) root path h leads =
     let both = and_parts (node_has_local_names p.0) (list_all node_has_local_names (map (λ p. p.0) ps)) h in
-    joined (has_paths root) (parts_of path p.0) (flat_map (parts_of path) (map (λ p. p.0) ps)) (p.1 root path both.0 leads) (at_nodes ps root path both.1 leads)
+    both_hold (has_paths root) (parts_of path p.0) (flat_map (parts_of path) (map (λ p. p.0) ps)) (p.1 root path both.0 leads) (at_nodes ps root path both.1 leads)
 
 parts_have_paths : (n : Node) → Parts n
 parts_have_paths = ind-Node Parts (λ e. PartsBelow e.children) (λ x y is. subst (λ z. Parts (roll-Node z)) is (at_node y)) (λ x y is. subst (λ z. PartsBelow (roll-Element z).children) is (at_nodes y.children))

@@ -11,6 +11,7 @@ use Rattle.std.proofs.lemmas.Grind.{common_steps}
 use Rattle.std.proofs.lemmas.Str.{encodes-chars, chars-encodes, IsUtf8-from_is_utf8, is_utf8-from_IsUtf8}
 use Rattle.field_text.specs.Xml.{is_name_char, begins_as_name, is_local_name}
 use Rattle.rosa_doc.specs.LocalNames.{spells_local_name}
+use Rattle.rosa_doc.proofs.LocalNames.{both_hold}
 use Rattle.rosa_doc.proofs.Names.{bytes_alike}
 use Rattle.form_def.specs.Paths.{is_slash, parts_of, is_name, is_attribute, are_names, are_below, is_path}
 use Rattle.form_outline.specs.Primary.{path_below, path_of_attribute}
@@ -19,9 +20,6 @@ use Rattle.form_outline.specs.Primary.{path_below, path_of_attribute}
 
 abbrev lacks_slash : List ℕ → Bool
 lacks_slash bs = list_all (λ b. not (is_slash b)) bs
-
-joined : (p : ℕ → Bool) (xs ys : List ℕ) → list_all p xs ≡ true → list_all p ys ≡ true → list_all p (xs ++ ys) ≡ true
-joined p xs ys h k = list_all-append p xs ys ∙ and_from (list_all p xs) (list_all p ys) h k
 
 high : (b : ℕ) → 128 ≤ b → not (is_slash b) ≡ true
 high b h = not_from_false (is_slash b) (ne_eqb b 47 (λ e. omega (arith, e, h)))
@@ -49,7 +47,7 @@ all_encoded : (cs : List ℕ) → list_all is_name_char cs ≡ true → lacks_sl
 all_encoded [] h = refl
 all_encoded (c ∷ cs) h =
     let both = and_parts (is_name_char c) (list_all is_name_char cs) h in
-    joined (λ b. not (is_slash b)) (encode c) (encodes cs) (encoded c both.0) (all_encoded cs both.1)
+    both_hold (λ b. not (is_slash b)) (encode c) (encodes cs) (encoded c both.0) (all_encoded cs both.1)
 
 pub local_name : (name : List ℕ) → spells_local_name name ≡ true → is_name name ≡ true
 local_name name h = (and_parts (is_utf8 name) (is_local_name (chars name)) h).1
@@ -97,7 +95,7 @@ pub leads_root : (root : List ℕ) → spells_local_name root ≡ true → Leads
 leads_root root h = ([], more_parts [] root (local_name-lacks_slash root h), refl)
 
 more_names : (names : List (List ℕ)) (name : List ℕ) → list_all is_name names ≡ true → is_name name ≡ true → list_all is_name (names ++ name ∷ []) ≡ true
-more_names names name h k = list_all-append is_name names (name ∷ []) ∙ and_from (list_all is_name names) (list_all is_name (name ∷ [])) h (and_from (is_name name) true k refl)
+more_names names name h k = both_hold is_name names (name ∷ []) h (and_from (is_name name) true k refl)
 
 pub leads_below : (root path name : List ℕ) → Leads root path → spells_local_name name ≡ true → Leads root (path_below path name)
 leads_below root path name (names, parts, are) h =
