@@ -1,11 +1,10 @@
 -- The names of an outline are those of its document.
-use Rattle.std.specs.Prelude.{ℕ, ◌≡◌, Bool, true, false, ◌&&◌, ◌||◌, if◌then◌else◌, cond, List, [], ◌∷◌, ◌++◌, codes, Option, Some, None, IfSome, find, filter_map, option_map, map, refl, Result, Ok, Err, IfOk}
+use Rattle.std.specs.Prelude.{ℕ, ◌≡◌, Bool, true, if◌then◌else◌, List, [], ◌∷◌, ◌++◌, codes, Option, Some, None, IfSome, find, option_map, map, refl, Result, Ok, Err, IfOk}
 use Rattle.std.specs.List.{list_all, flat_map, cons_option}
 use Rattle.std.specs.Option.{option_to_list, option_map_or}
 use Rattle.std.specs.Str.{bytes_eq}
 use Rattle.std.proofs.Common.{ap, sym, ◌∙◌, subst}
 use Rattle.std.proofs.lemmas.Bool.{and_parts, and_from, cond_both}
-use Rattle.std.proofs.lemmas.List.Folds.{list_all-append}
 use Rattle.rosa_doc.specs.declared.tree.Attribute.{Attribute}
 use Rattle.rosa_doc.specs.declared.tree.Element.{Element, roll-Element}
 use Rattle.rosa_doc.specs.declared.tree.Node.{Node, ind-Node, roll-Node, map-Node, out-Node}
@@ -13,17 +12,16 @@ use Rattle.rosa_doc.specs.declared.tree.Node.TheFolds.{fold_out-Node}
 use Rattle.rosa_doc.specs.declared.tree.Node.TheOpen.{Node-F}
 use Rattle.rosa_doc.specs.declared.tree.Node.TheVariants.{Child, Words, rolls-Child, rolls-Words}
 use Rattle.rosa_doc.specs.LocalNames.{spells_local_name, element_with_children, node_with_element, has_local_names, node_has_local_names}
-use Rattle.rosa_doc.proofs.LocalNames.{both_hold, has_local_names-Element, has_local_names-Child, has_local_names-Words}
-use Rattle.form_def.specs.Paths.{is_name, is_path}
+use Rattle.rosa_doc.proofs.LocalNames.{both_hold, has_local_names-Element, has_local_names-Child}
+use Rattle.form_def.specs.Paths.{is_path}
 use Rattle.form_outline.specs.declared.outline.PrimaryField.{PrimaryField}
-use Rattle.form_outline.specs.declared.outline.PrimaryPart.{PrimaryPart}
-use Rattle.form_outline.specs.declared.outline.PrimaryPart.TheVariants.{Field, Meta, Entity}
+use Rattle.form_outline.specs.declared.outline.PrimaryPart.TheVariants.{Meta, Entity}
 use Rattle.form_outline.specs.declared.outline.Outline.{Outline}
 use Rattle.form_outline.specs.declared.reading.OutlineFault.{OutlineFault}
 use Rattle.form_outline.specs.Nodes.{element_in, element_of_layer, elements, child_named, attribute_of}
 use Rattle.form_outline.specs.Names.{field_has_path, has_paths, IsNamed}
 use Rattle.form_outline.specs.Outlines.{◌>>=◌, first_of, first_element, outline_of, Gives}
-use Rattle.form_outline.specs.Primary.{path_below, path_of_attribute, field_at, parts_of, attribute_field, attribute_fields, label_in, entity_fields, entity_part, is_meta, meta_part, meta_parts, primary_part, primary_of}
+use Rattle.form_outline.specs.Primary.{path_below, field_at, parts_of, attribute_field, attribute_fields, label_in, entity_fields, entity_part, is_meta, meta_part, meta_parts, primary_part, primary_of}
 use Rattle.std.proofs.Math.Utf8.{encode, encodes, scalars}
 use Rattle.field_text.specs.Xml.{is_local_name}
 use Rattle.form_outline.proofs.PathLemmas.{Leads, leads_root, leads_below, is_path-below, is_path-attribute, local_name, ascii_name}
