@@ -1,8 +1,8 @@
 -- The controls in each kind of node.
-use Rattle.std.specs.Prelude.{ℕ, true, false, if◌then◌else◌, List, [], ◌∷◌, ◌++◌, ◌≡◌, codes, map, refl}
+use Rattle.std.specs.Prelude.{ℕ, true, false, List, [], ◌∷◌, ◌++◌, ◌≡◌, codes, map, refl}
 use Rattle.std.specs.List.{flat_map}
 use Rattle.std.specs.Str.{bytes_eq}
-use Rattle.std.proofs.Common.{ap, sym, ◌∙◌}
+use Rattle.std.proofs.Common.{ap, ◌∙◌}
 use Rattle.rosa_doc.specs.declared.tree.Element.{Element}
 use Rattle.rosa_doc.specs.declared.tree.Node.{Node}
 use Rattle.rosa_doc.specs.declared.tree.Node.TheVariants.{Child, Words}

@@ -1,3 +1,5 @@
 pub mod TreeLemmas
 pub mod PrimaryLemmas
 pub mod ControlLemmas
+pub mod PathLemmas
+pub mod NameLemmas

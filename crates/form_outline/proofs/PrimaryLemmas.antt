@@ -1,7 +1,7 @@
 -- The parts in each kind of node of the primary instance.
 use Rattle.std.specs.Prelude.{ℕ, List, [], ◌∷◌, ◌++◌, ◌≡◌, map, refl, Result, Ok, Err, OnOk}
 use Rattle.std.specs.List.{flat_map}
-use Rattle.std.proofs.Common.{ap, sym, ◌∙◌, append_assoc}
+use Rattle.std.proofs.Common.{ap, ◌∙◌, append_assoc}
 use Rattle.rosa_doc.specs.declared.tree.Element.{Element}
 use Rattle.rosa_doc.specs.declared.tree.Node.{Node}
 use Rattle.rosa_doc.specs.declared.tree.Node.TheVariants.{Child, Words}

@@ -1,8 +1,7 @@
 use Rattle.std.specs.Prelude.{ℕ, List, [], ◌∷◌, map, ◌≡◌, refl}
 use Rattle.std.proofs.Common.{ap, sym, ◌∙◌, subst}
 use Rattle.rosa_doc.specs.declared.tree.Element.{Element, fold-Element, fold_out-Element, roll-Element}
-use Rattle.rosa_doc.specs.declared.tree.Element.{Element-F}
-use Rattle.rosa_doc.specs.declared.tree.Node.{Node, fold-Node, fold-roll-Node, ind-Node, roll-Node, map-Node}
+use Rattle.rosa_doc.specs.declared.tree.Node.{Node, fold-roll-Node, ind-Node, roll-Node, map-Node}
 use Rattle.rosa_doc.specs.declared.tree.Node.TheOpen.{Node-F}
 use Rattle.rosa_doc.specs.declared.tree.Node.TheVariants.{Child, Words, rolls-Child, rolls-Words}
 use Rattle.form_outline.specs.Trees.{of_layer, of_node_layer, gathered_with, gathered}

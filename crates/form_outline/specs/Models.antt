@@ -1,5 +1,5 @@
 -- The children of a model (ODK XForms, "Model") by the texts of their attributes.
-use Rattle.std.specs.Prelude.{ℕ, Bool, true, false, not, ◌&&◌, ◌||◌, if◌then◌else◌, List, [], ◌∷◌, ◌++◌, codes, Option, Some, None, option_map}
+use Rattle.std.specs.Prelude.{Bool, false, not, ◌&&◌, ◌||◌, if◌then◌else◌, List, [], ◌∷◌, ◌++◌, codes, Option, Some, None}
 use Rattle.std.specs.List.{flat_map}
 use Rattle.std.specs.Option.{option_map_or}
 use Rattle.std.specs.Str.{bytes_eq}
@@ -8,7 +8,6 @@ use Rattle.rosa_doc.specs.declared.tree.Attribute.{Attribute}
 use Rattle.rosa_doc.specs.declared.tree.Element.{Element}
 use Rattle.rosa_doc.specs.declared.tree.Node.{Node}
 use Rattle.form_outline.specs.declared.outline.Bind.{Bind}
-use Rattle.form_outline.specs.declared.outline.Table.{Table}
 use Rattle.form_outline.specs.declared.outline.TableContent.{TableContent}
 use Rattle.form_outline.specs.declared.outline.TableContent.TheVariants.{Rows, Source, Nothing}
 use Rattle.form_outline.specs.declared.outline.SetValue.{SetValue}

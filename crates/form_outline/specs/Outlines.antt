@@ -5,7 +5,6 @@ use Rattle.std.specs.Str.{bytes_eq}
 use Rattle.rosa_doc.specs.declared.tree.Doc.{Doc}
 use Rattle.rosa_doc.specs.declared.tree.Element.{Element}
 use Rattle.rosa_doc.specs.declared.tree.Node.{Node}
-use Rattle.rosa_doc.specs.declared.refusal.DocRefused.{DocRefused}
 use Rattle.rosa_doc.specs.Refusals.{IsDoc, Refuses as RefusesDoc}
 use Rattle.form_outline.specs.declared.outline.Outline.{Outline}
 use Rattle.form_outline.specs.declared.reading.OutlineFault.{OutlineFault}

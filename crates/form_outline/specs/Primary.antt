@@ -1,6 +1,6 @@
 -- The fields of the primary instance (ODK XForms, "Primary Instance"): every element below its root, in document order. In
 -- `meta` only the name of the instance and the entity are fields.
-use Rattle.std.specs.Prelude.{ℕ, Bool, true, false, if◌then◌else◌, List, [], ◌∷◌, ◌++◌, codes, Option, Some, None, map, filter, option_map}
+use Rattle.std.specs.Prelude.{ℕ, Bool, false, if◌then◌else◌, List, [], ◌∷◌, ◌++◌, codes, option_map}
 use Rattle.std.specs.List.{flat_map}
 use Rattle.std.specs.Option.{option_to_list, option_map_or}
 use Rattle.std.specs.Str.{bytes_eq}

@@ -1,5 +1,5 @@
 -- What is gathered from a tree: for a node, from the element that it is and from what was gathered from that one's children.
-use Rattle.std.specs.Prelude.{ℕ, List, map}
+use Rattle.std.specs.Prelude.{List, map}
 use Rattle.rosa_doc.specs.declared.tree.Element.{Element}
 use Rattle.rosa_doc.specs.declared.tree.Element.{Element-F}
 use Rattle.rosa_doc.specs.declared.tree.Node.{Node, fold-Node}

@@ -3,6 +3,7 @@ ghost use Rattle.std.specs.Option.{option_copied};
 ghost use Rattle.form_outline.specs.declared.reading.OutlineFault.TheVariants.{NoMemory};
 ghost use Rattle.form_outline.specs.Outlines.{Gives, Outlines, Refuses, has_body_first, first_element, outline_of, is_body, is_head_or_body};
 ghost use Rattle.form_outline.specs.Nodes.{child_named};
+ghost use Rattle.form_outline.specs.Names.{IsNamed};
 
 use crate::Outline;
 use crate::controls::controls_of;
@@ -104,6 +105,7 @@ fn outline_of(alloc: Global, document: &Element) -> Result<Outline, OutlineFault
 pub fn read_outline(alloc: Global, bytes: &[u8]) -> Result<Outline, OutlineFault>
     ensures found { IfOk result (λ outline. Outlines bytes.now outline) }
     ensures refused { IfErr result (λ fault. Refuses bytes.now fault) }
+    ensures named { IfOk result (λ outline. IsNamed outline) }
 {
     match rosa_doc::read(alloc, bytes) {
         Ok(doc) => outline_of(alloc, &doc.root),

@@ -3,10 +3,10 @@ use Rattle.std.proofs.Common.{◌≡◌, ℕ, ◌<◌, ◌≤◌, Bool, true, �
 use Rattle.std.proofs.Math.Utf8.{scalar, scalars, low_scalar}
 use Rattle.std.specs.Prelude.{Result, Ok, Err, IfOk}
 use Rattle.std.specs.List.{list_all}
-use Rattle.std.specs.Str.{chars}
+use Rattle.std.specs.Str.{is_utf8, chars}
 use Rattle.std.proofs.lemmas.Bool.{and_parts, and_from, or_cases, leb-true, eqb-true, le-ltb, le-leb, lt-ltb}
 use Rattle.std.proofs.lemmas.List.Folds.{list_all-append}
-use Rattle.std.proofs.lemmas.Str.{chars-encodes}
+use Rattle.std.proofs.lemmas.Str.{chars-encodes, is_utf8-from_IsUtf8}
 use Rattle.field_text.specs.Xml.{is_between, is_xml_char, is_name_start, is_name_char, begins_as_name, is_local_name}
 use Rattle.rosa_pieces.specs.declared.piece.Tag.{Tag}
 use Rattle.rosa_pieces.specs.declared.piece.Piece.{Piece}
@@ -21,14 +21,14 @@ use Rattle.rosa_doc.specs.declared.tree.Node.TheOpen.{Node-F}
 use Rattle.rosa_doc.specs.declared.refusal.DocRefused.{DocRefused}
 use Rattle.rosa_doc.specs.Documents.{with_words, element_of, IsContent, IsElement, nothing, comment, instruction, character, empty, element, empty_tag, tags, IsDocument, body_of}
 use Rattle.rosa_doc.specs.Refusals.{IsDoc}
-use Rattle.rosa_doc.specs.LocalNames.{element_with_children, node_with_element, has_local_names, node_has_local_names}
+use Rattle.rosa_doc.specs.LocalNames.{spells_local_name, element_with_children, node_with_element, has_local_names, node_has_local_names}
 
 children_answers : (ns : List Node) → list_all (λ b. b) (map node_has_local_names ns) ≡ list_all node_has_local_names ns
 children_answers [] = refl
 children_answers (n ∷ ns) = ap (λ b. node_has_local_names n && b) (children_answers ns)
 
-pub has_local_names-Element : (e : Element) → has_local_names e ≡ is_local_name (chars e.name) && list_all node_has_local_names e.children
-has_local_names-Element e = fold_out-Element Bool Bool node_with_element element_with_children e ∙ ap (λ b. is_local_name (chars e.name) && b) (children_answers e.children)
+pub has_local_names-Element : (e : Element) → has_local_names e ≡ spells_local_name e.name && list_all node_has_local_names e.children
+has_local_names-Element e = fold_out-Element Bool Bool node_with_element element_with_children e ∙ ap (λ b. spells_local_name e.name && b) (children_answers e.children)
 
 pub has_local_names-Child : (e : Element) → node_has_local_names (Child e) ≡ has_local_names e
 has_local_names-Child e = ap node_has_local_names (sym (rolls-Child e)) ∙ fold-roll-Node Bool Bool node_with_element element_with_children (Node-F.Child e)
@@ -81,20 +81,21 @@ name_chars_are_scalars (c ∷ cs) h =
     let both = and_parts (is_name_char c) (list_all is_name_char cs) h in
     and_from (scalar c) (scalars cs) (name_char_is_scalar c both.0) (name_chars_are_scalars cs both.1)
 
-encoded_name : (cs local : List ℕ) → is_local_name cs ≡ true → local ≡ encode_utf8_all cs → is_local_name (chars local) ≡ true
+encoded_name : (cs local : List ℕ) → is_local_name cs ≡ true → local ≡ encode_utf8_all cs → spells_local_name local ≡ true
 encoded_name cs local h e =
     let are = name_chars_are_scalars cs (and_parts (begins_as_name cs) (list_all is_name_char cs) h).1 in
-    ap (λ (x : List ℕ). is_local_name (chars x)) e ∙ ap is_local_name (chars-encodes cs are) ∙ h
+    and_from (is_utf8 local) (is_local_name (chars local)) (is_utf8-from_IsUtf8 local (cs, (are, sym e)))
+    (ap (λ (x : List ℕ). is_local_name (chars x)) e ∙ ap is_local_name (chars-encodes cs are) ∙ h)
 
-spelled_name : (prefix : Option (List ℕ)) (local cs : List ℕ) → SpellsName prefix local cs → is_local_name (chars local) ≡ true
+spelled_name : (prefix : Option (List ℕ)) (local cs : List ℕ) → SpellsName prefix local cs → spells_local_name local ≡ true
 spelled_name None local cs h = encoded_name cs local h.0 h.1
 spelled_name (Some p) local cs (a, b, ha, hb, pa, lb, whole) = encoded_name b local hb lb
 
 -- ---- each tag of a document has a local name
 
 abbrev piece_has_local_name : Piece → Bool
-piece_has_local_name (Start t) = is_local_name (chars t.name.local)
-piece_has_local_name (Empty t) = is_local_name (chars t.name.local)
+piece_has_local_name (Start t) = spells_local_name t.name.local
+piece_has_local_name (Empty t) = spells_local_name t.name.local
 piece_has_local_name (End n) = true
 piece_has_local_name Comment = true
 piece_has_local_name Instruction = true
@@ -117,7 +118,7 @@ spelled_pieces (p ∷ ps) cs (x, y, hp, hps, parts) = and_from (piece_has_local_
 parts_hold : {A : Type 0} (p : A → Bool) (xs ys : List A) → list_all p (xs ++ ys) ≡ true → (list_all p xs ≡ true) × (list_all p ys ≡ true)
 parts_hold p xs ys h = and_parts (list_all p xs) (list_all p ys) (sym (list_all-append p xs ys) ∙ h)
 
-both_hold : {A : Type 0} (p : A → Bool) (xs ys : List A) → list_all p xs ≡ true → list_all p ys ≡ true → list_all p (xs ++ ys) ≡ true
+pub both_hold : {A : Type 0} (p : A → Bool) (xs ys : List A) → list_all p xs ≡ true → list_all p ys ≡ true → list_all p (xs ++ ys) ≡ true
 both_hold p xs ys h k = list_all-append p xs ys ∙ and_from (list_all p xs) (list_all p ys) h k
 
 -- ---- the tree
@@ -136,11 +137,11 @@ names_with_child : (children : List Node) (words : List ℕ) (e : Element) → H
 names_with_child children words e h k = both_hold node_has_local_names (with_words children words) (Child e ∷ []) (names_with_words children words h)
     (and_from (node_has_local_names (Child e)) true (has_local_names-Child e ∙ k) refl)
 
-names_of_element : (t : Tag) (children : List Node) → is_local_name (chars t.name.local) ≡ true → HoldNames children → has_local_names (element_of t children) ≡ true
-names_of_element t children h k = has_local_names-Element (element_of t children) ∙ and_from (is_local_name (chars t.name.local)) (list_all node_has_local_names children) h k
+names_of_element : (t : Tag) (children : List Node) → spells_local_name t.name.local ≡ true → HoldNames children → has_local_names (element_of t children) ≡ true
+names_of_element t children h k = has_local_names-Element (element_of t children) ∙ and_from (spells_local_name t.name.local) (list_all node_has_local_names children) h k
 
 -- the tags round an element, and the pieces between them
-between_tags : (t : Tag) (inside : List Piece) → HaveNames (Start t ∷ (inside ++ (End t.name ∷ []))) → (is_local_name (chars t.name.local) ≡ true) × HaveNames inside
+between_tags : (t : Tag) (inside : List Piece) → HaveNames (Start t ∷ (inside ++ (End t.name ∷ []))) → (spells_local_name t.name.local ≡ true) × HaveNames inside
 between_tags t inside h =
     let both = and_parts (piece_has_local_name (Start t)) (list_all piece_has_local_name (inside ++ (End t.name ∷ []))) h in
     (both.0, (parts_hold piece_has_local_name inside (End t.name ∷ []) both.1).0)

@@ -1,16 +1,19 @@
 -- Trees of which each element's name is a local name (Namespaces in XML 1.0, section 3), its characters in UTF-8.
-use Rattle.std.specs.Prelude.{Bool, true, ◌&&◌}
+use Rattle.std.specs.Prelude.{ℕ, List, Bool, true, ◌&&◌}
 use Rattle.std.specs.List.{list_all}
-use Rattle.std.specs.Str.{chars}
+use Rattle.std.specs.Str.{is_utf8, chars}
 use Rattle.field_text.specs.Xml.{is_local_name}
 use Rattle.rosa_doc.specs.declared.tree.Element.{Element}
 use Rattle.rosa_doc.specs.declared.tree.Node.{Node}
 use Rattle.rosa_doc.specs.declared.tree.Node.TheFolds.{fold-Element, fold-Node}
 use Rattle.rosa_doc.specs.declared.tree.Node.TheOpen.{Element-F, Node-F}
 
+abbrev pub spells_local_name : List ℕ → Bool
+spells_local_name name = is_utf8 name && is_local_name (chars name)
+
 -- an element with this answer for each of its children
 abbrev pub element_with_children : Element-F Bool Bool → Bool
-element_with_children e = is_local_name (chars e.name) && list_all (λ b. b) e.children
+element_with_children e = spells_local_name e.name && list_all (λ b. b) e.children
 
 -- a child is answered as the element is; words have no name
 abbrev pub node_with_element : Node-F Bool Bool → Bool

@@ -1,5 +1,4 @@
-use Rattle.std.proofs.Common.{◌≡◌, ◌++◌, ℕ, take, length}
-use Rattle.std.specs.List.{flat_map}
+use Rattle.std.proofs.Common.{◌≡◌, ◌++◌, length}
 use Rattle.form_outline.specs.Models.{parts_behind, model_of}
 use Rattle.form_outline.proofs.model.model_of.Given as goal
 

@@ -1,4 +1,4 @@
-use Rattle.std.proofs.Common.{◌≡◌, ℕ, length}
+use Rattle.std.proofs.Common.{◌≡◌, length}
 use Rattle.form_outline.specs.Nodes.{child_named}
 use Rattle.form_outline.proofs.nodes.child_named.Given as goal
 

@@ -1,4 +1,4 @@
-use Rattle.std.proofs.Common.{◌≡◌, ◌++◌, ℕ, take, length}
+use Rattle.std.proofs.Common.{◌≡◌, take}
 use Rattle.std.specs.List.{flat_map}
 use Rattle.form_outline.specs.Primary.{primary_part}
 use Rattle.form_outline.proofs.primary.primary_of.Given as goal

@@ -1,4 +1,4 @@
-use Rattle.std.proofs.Common.{◌≡◌, ◌++◌, ℕ, take, length}
+use Rattle.std.proofs.Common.{◌≡◌, ◌++◌, take}
 use Rattle.std.specs.List.{flat_map}
 use Rattle.form_outline.specs.Primary.{meta_parts}
 use Rattle.form_outline.proofs.primary.push_meta_parts.Given as goal

@@ -1,5 +1,4 @@
-use Rattle.std.proofs.Common.{◌≡◌, ◌++◌, ℕ, take, length}
-use Rattle.std.specs.List.{flat_map}
+use Rattle.std.proofs.Common.{◌≡◌, length}
 use Rattle.form_outline.specs.Outlines.{first_element}
 use Rattle.form_outline.proofs.reading.first_element.Given as goal
 
