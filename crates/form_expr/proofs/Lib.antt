@@ -3,3 +3,4 @@ pub mod Columns
 pub mod Tokens
 pub mod Readings
 pub mod Trees
+pub mod Complete

@@ -3,3 +3,4 @@ pub mod Precedence
 pub mod Grammar
 pub mod Machine
 pub mod Reading
+pub mod Laws

@@ -1,4 +1,5 @@
 use Rattle.form_expr.proofs.Trees.{some_tree}
+use Rattle.form_expr.proofs.Complete.{expr_runs}
 use Rattle.form_expr.proofs.laws.operands_have_a_tree.Goals as goal
 
 pub returns : goal.returns
