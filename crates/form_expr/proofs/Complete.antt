@@ -87,7 +87,7 @@ takes_more_below func n m h lt = more_of (arguments func) n m h lt
 
 -- ---- names
 
-same_bytes : (xs ys : List ℕ) → bytes_eq xs ys ≡ true → xs ≡ ys
+pub same_bytes : (xs ys : List ℕ) → bytes_eq xs ys ≡ true → xs ≡ ys
 same_bytes xs ys e = decided (bytes_eq xs ys) (xs ≡ ys) (bytes_eq-Decides xs ys) e
   where
     decided : (b : Bool) (P : Type 0) → Decides b P → b ≡ true → P
@@ -210,9 +210,9 @@ item_runs end room table ts filter name runs one-name k fits us follow =
     let assoc = append_assoc ts (tok.CloseBracket ∷ tok.Absolute (47 ∷ name) ∷ []) us in
     let behind-rows = (ts ++ tok.CloseBracket ∷ tok.Absolute (47 ∷ name) ∷ []) ++ us in
     let opens : run end behind-rows (at (pend.Filter table ∷ k) want.Operand) ≡ run end (tok.CloseBracket ∷ tok.Absolute (47 ∷ name) ∷ us) (at (pend.Filter table ∷ k) (want.Operator filter)) =
-        ap (λ (x : List Token). run end x (at (pend.Filter table ∷ k) want.Operand)) assoc ∙ runs (pend.Filter table ∷ k) inner refl (tok.CloseBracket ∷ tok.Absolute (47 ∷ name) ∷ us) refl in
+    ap (λ (x : List Token). run end x (at (pend.Filter table ∷ k) want.Operand)) assoc ∙ runs (pend.Filter table ∷ k) inner refl (tok.CloseBracket ∷ tok.Absolute (47 ∷ name) ∷ us) refl in
     instance_runs end room k fits (tok.Open ∷ tok.Quoted table ∷ tok.Close ∷ tok.Absolute (codes "/root/item") ∷ tok.OpenBracket ∷ behind-rows) ∙ rows_run end k table (tok.OpenBracket ∷ behind-rows) ∙ opens
-      ∙ value_runs end k table name filter fits.outside one-name us
+    ∙ value_runs end k table name filter fits.outside one-name us
 
 -- ---- operators
 
@@ -221,7 +221,7 @@ sign_runs : {A : Type 0} (end : State → Option A) (k : List Pending) (x : Synt
 unfolding step
 sign_runs end k x sign op is us = rw is refl
 
-stays_behind : (k : List Pending) (x : Syntax) → top k < 7 → behind k x ≡ at k (want.Operator x)
+pub stays_behind : (k : List Pending) (x : Syntax) → top k < 7 → behind k x ≡ at k (want.Operator x)
 stays_behind k x low = rw (bound_stays 7 k x low) refl
 
 pub fits_links : (k : List Pending) (inside : Bool) (room : ℕ) (ls : List Link) → Fits k inside room → Fits (after_links k ls) inside room

@@ -4,3 +4,5 @@ pub mod Tokens
 pub mod Readings
 pub mod Trees
 pub mod Complete
+pub mod Stands
+pub mod Steps

@@ -109,9 +109,9 @@ tree_bound ls last e (pair before after link _ left right no-tighter tighter l r
     let tights = all_parts (λ (x : Link). nat_le n (level x.op)) before (link ∷ after) tight in
     let tight-link = and_parts (nat_le n (level link.op)) (list_all (λ (x : Link). nat_le n (level x.op)) after) tights.1 in
     let first : bound_by (level link.op) (after_links k before) link.left ≡ (k, left) =
-        tree_bound before link.left left l (level link.op) k loose.0 no-tighter ∙ bound_stays (level link.op) k left (ltb-true (top k) (level link.op) loose-link.0) in
+    tree_bound before link.left left l (level link.op) k loose.0 no-tighter ∙ bound_stays (level link.op) k left (ltb-true (top k) (level link.op) loose-link.0) in
     let pushed : after_links k (before ++ link ∷ after) ≡ after_links (pend.Left left link.op ∷ k) after =
-        after_append k before (link ∷ after) ∙ ap (λ (x : List Pending × Syntax). after_links (push link.op x) after) first in
+    after_append k before (link ∷ after) ∙ ap (λ (x : List Pending × Syntax). after_links (push link.op x) after) first in
     let rest : bound_by n (after_links (pend.Left left link.op ∷ k) after) last ≡ bound_by n (pend.Left left link.op ∷ k) right = tree_bound after last right r n (pend.Left left link.op ∷ k) tighter tight-link.1 in
     let one : bound_by n (pend.Left left link.op ∷ k) right ≡ bound_by n k (Pair link.op left right) = rw (tight-link.0) refl in
     ap (λ (x : List Pending). bound_by n x last) pushed ∙ rest ∙ one
