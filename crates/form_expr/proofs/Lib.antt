@@ -6,3 +6,4 @@ pub mod Trees
 pub mod Complete
 pub mod Stands
 pub mod Steps
+pub mod Viable
