@@ -15,14 +15,15 @@ use Rattle.form_tokens.specs.declared.token.Token.{Token}
 use Rattle.form_tokens.specs.declared.token.Token.TheVariants as tok
 use Rattle.form_expr.specs.declared.syntax.Syntax.{Syntax}
 use Rattle.form_expr.specs.declared.syntax.Syntax.TheVariants as syn
+use Rattle.form_expr.specs.declared.syntax.Itemset.{Itemset}
 use Rattle.form_expr.specs.declared.pending.Pending.{Pending}
 use Rattle.form_expr.specs.declared.pending.Pending.TheVariants as pend
 use Rattle.form_expr.specs.declared.expected.Expected.{Expected}
 use Rattle.form_expr.specs.declared.expected.Expected.TheVariants as want
 use Rattle.form_expr.specs.Words.{operator_of, function_of, arguments, is_number_taken, is_more_taken, may_take, takes_more, is_no_slash}
 use Rattle.form_expr.specs.Precedence.{level, Link, IsTree}
-use Rattle.form_expr.specs.Grammar.{rows_of, IsOperand, AreArgs, AreLinks, IsExpr, number, text, period, absolute, relative, column, negative, group, call_alone, call, item, first, next, none, link, grouped}
-use Rattle.form_expr.specs.Machine.{State, at, depth, has_room, is_inside, is_in_itemset, tightness, bound_by, behind, step, when, opened_call, word_step, column_of_path}
+use Rattle.form_expr.specs.Grammar.{rows_of, IsOperand, AreArgs, AreLinks, IsExpr, number, text, period, absolute, relative, column, negative, group, call_alone, call, item, first, next, none, link, grouped, all_rows, filtered, IsItemset, IsWholeExpr, IsWholeItemset}
+use Rattle.form_expr.specs.Machine.{State, at, depth, has_room, is_inside, is_in_itemset, tightness, bound_by, behind, step, when, opened_call, word_step, column_of_path, when_alone, expr_start, expr_end, itemset_start, itemset_end}
 use Rattle.form_expr.proofs.Trees.{top, bound_stays, push, after_links, after_append, tree_bound, zero_is_looser, one_is_no_tighter, inside_bound, same_links, links_top, links_outside, level_low, level_high}
 use Rattle.rosa_pieces.proofs.Steps.{bind_some}
 
@@ -308,3 +309,49 @@ mutual
 
   pub expr_runs : {A : Type 0} (end : State → Option A) → IsEnd end → (inside : Bool) (room : ℕ) (ts : List Token) (e : Syntax) → IsExpr inside room ts e → ExprRuns end inside room ts e
   expr_runs end is-end inside room ts e (grouped _ _ us vs ls last _ a o tree) = grouped_runs end is-end inside room us vs ls last e (links_run end is-end inside room us ls a) (operand_runs end is-end inside room vs last o) tree
+
+-- ---- whole expressions and itemsets
+
+inside_alone : (x : List Pending × Syntax) → is_inside x.0 ≡ true → when_alone x ≡ None
+inside_alone ([], whole) h = absurd cc
+inside_alone (pending ∷ outer, whole) h = refl
+
+expr_is_end : IsEnd expr_end
+expr_is_end = record {
+  alike = λ k l x y same. ap (λ (z : List Pending × Syntax). when_alone z) same;
+  named = λ k name inside. sym (inside_alone (bound_by 1 (bound_by 7 k (syn.Column name)).0 (bound_by 7 k (syn.Column name)).1)
+      (inside_bound 1 (bound_by 7 k (syn.Column name)).0 (bound_by 7 k (syn.Column name)).1 (omega arith) ∙ inside_bound 7 k (syn.Column name) (omega arith) ∙ inside));
+}
+
+itemset_is_end : IsEnd itemset_end
+itemset_is_end = record { alike = λ k l x y same. refl; named = λ k name inside. refl }
+
+pub expr_runs_whole : (ts : List Token) (e : Syntax) → IsWholeExpr ts e → run expr_end ts expr_start ≡ Some e
+expr_runs_whole ts e h =
+    let fits : Fits [] false 32 = record { insides = refl; rooms = refl; outside = refl } in
+    ap (λ (x : List Token). run expr_end x expr_start) (sym (append-nil ts)) ∙ expr_runs expr_end expr_is_end false 32 ts e h [] fits refl [] refl
+
+instance_opens : (us : List Token) → run itemset_end (tok.Name (codes "instance") ∷ us) itemset_start ≡ run itemset_end us (at (pend.Itemset ∷ []) want.TableOpening)
+unfolding step
+instance_opens us = refl
+
+filter_opens : (table : List ℕ) (us : List Token) → run itemset_end (tok.OpenBracket ∷ us) (at (pend.Itemset ∷ []) (want.FilterOpening table)) ≡ run itemset_end us (at (pend.Filter table ∷ pend.Itemset ∷ []) want.Operand)
+unfolding step
+filter_opens table us = refl
+
+filter_ends : (table : List ℕ) (filter : Syntax) → run itemset_end (tok.CloseBracket ∷ []) (at (pend.Filter table ∷ pend.Itemset ∷ []) (want.Operator filter)) ≡ Some (record { table = table; filter = Some filter })
+unfolding step
+filter_ends table filter = refl
+
+itemset_opens : (table : List ℕ) (us : List Token) → run itemset_end (rows_of table ++ us) itemset_start ≡ run itemset_end us (at (pend.Itemset ∷ []) (want.FilterOpening table))
+itemset_opens table us = instance_opens (tok.Open ∷ tok.Quoted table ∷ tok.Close ∷ tok.Absolute (codes "/root/item") ∷ us) ∙ rows_run itemset_end (pend.Itemset ∷ []) table us
+
+itemset_runs_by : (n : ℕ) (ts : List Token) (set : Itemset) → IsItemset n ts set → n ≡ 32 → run itemset_end ts itemset_start ≡ Some set
+itemset_runs_by n ts set (all_rows less table) is = itemset_opens table []
+itemset_runs_by n ts set (filtered less table us filter h) is =
+    let fits : Fits (pend.Filter table ∷ pend.Itemset ∷ []) true less = record { insides = refl; rooms = omega (arith, is); outside = refl } in
+    itemset_opens table (tok.OpenBracket ∷ (us ++ tok.CloseBracket ∷ [])) ∙ filter_opens table (us ++ tok.CloseBracket ∷ []) ∙ expr_runs itemset_end itemset_is_end true less us filter h (pend.Filter table ∷ pend.Itemset ∷ []) fits refl (tok.CloseBracket ∷ []) refl
+    ∙ filter_ends table filter
+
+pub itemset_runs : (ts : List Token) (set : Itemset) → IsWholeItemset ts set → run itemset_end ts itemset_start ≡ Some set
+itemset_runs ts set h = itemset_runs_by 32 ts set h refl

@@ -7,3 +7,5 @@ pub mod Complete
 pub mod Stands
 pub mod Steps
 pub mod Viable
+pub mod Ends
+pub mod Texts

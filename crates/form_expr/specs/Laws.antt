@@ -5,6 +5,8 @@ use Rattle.field_text.specs.Xml.{is_xml_space}
 use Rattle.rosa_pieces.specs.Reading.{past}
 use Rattle.form_tokens.specs.declared.token.Token.{Token}
 use Rattle.form_tokens.specs.Tokens.{token_at}
+use Rattle.form_expr.specs.declared.syntax.ExprFault.{ExprFault}
+use Rattle.form_expr.specs.declared.syntax.ExprFault.TheVariants.{BadExpr, NoMemory}
 use Rattle.form_expr.specs.Grammar.{Begins}
 use Rattle.form_expr.specs.Reading.{longest_text}
 
@@ -44,3 +46,8 @@ pub data IsRefused {A : Type 0} (IsWhole : List Token → A → Type 0) (text : 
 abbrev pub ReadsAs : {A : Type 0} → (List Token → A → Type 0) → List ℕ → Result A ℕ → Type 0
 ReadsAs IsWhole text (Ok whole) = Spells IsWhole text whole
 ReadsAs IsWhole text (Err at) = IsRefused IsWhole text at
+
+-- why a fault comes, of which want of memory says nothing
+abbrev pub RefusedAs : {A : Type 0} → (List Token → A → Type 0) → List ℕ → ExprFault → Type 0
+RefusedAs IsWhole text (BadExpr at) = IsRefused IsWhole text at
+RefusedAs IsWhole text NoMemory = Unit {0}

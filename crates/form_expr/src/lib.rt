@@ -2,7 +2,6 @@
 #![tactic(auto)]
 
 mod expected;
-mod laws;
 mod pending;
 mod progress;
 mod reading;
@@ -11,6 +10,5 @@ mod syntax;
 mod tests;
 mod words;
 
-pub use laws::operands_have_a_tree;
 pub use reading::{read_expr, read_itemset};
 pub use syntax::{ExprFault, Itemset, Syntax};
