@@ -1,7 +1,7 @@
 -- The tokens of each expression run to its end, and give it.
-use Rattle.std.proofs.Common.{◌≡◌, ℕ, ℤ, zero, suc, ◌+◌, ◌<◌, ◌≤◌, ◌==◌, Bool, true, false, ◌&&◌, ◌||◌, cond, List, [], ◌∷◌, ◌++◌, codes, length, Option, Some, None, refl, sym, ap, subst, ◌∙◌, arith, append_assoc, inl, inr}
-use Rattle.std.specs.Prelude.{nat_lt, nat_le}
-use Rattle.std.specs.List.{list_all, list_any}
+use Rattle.std.proofs.Common.{◌≡◌, ℕ, ℤ, suc, ◌+◌, ◌<◌, ◌≤◌, Bool, true, false, List, [], ◌∷◌, ◌++◌, codes, length, Option, Some, None, refl, sym, ap, subst, ◌∙◌, arith, append_assoc}
+use Rattle.std.specs.Prelude.{nat_lt}
+use Rattle.std.specs.List.{list_all}
 use Rattle.std.specs.Str.{bytes_eq}
 use Rattle.std.specs.Bool.{Decides}
 use Rattle.std.proofs.lemmas.Slice.Eq.{bytes_eq-Decides}
@@ -9,7 +9,6 @@ use Rattle.std.proofs.lemmas.Bool.{lt-ltb, eqb-true, ne_eqb}
 use Rattle.std.proofs.lemmas.List.{length-append, append-nil}
 use Rattle.rosa_pieces.specs.Reading.{◌>>=◌}
 use Rattle.form_def.specs.declared.expr.Func.{Func}
-use Rattle.form_def.specs.declared.expr.Func.TheVariants.{Yes, No, Not, Selected, CountSelected, StringLength, Concat, Choose, Coalesce}
 use Rattle.form_def.specs.declared.expr.Op.{Op}
 use Rattle.form_tokens.specs.declared.token.Token.{Token}
 use Rattle.form_tokens.specs.declared.token.Token.TheVariants as tok
@@ -18,14 +17,12 @@ use Rattle.form_expr.specs.declared.syntax.Syntax.TheVariants as syn
 use Rattle.form_expr.specs.declared.syntax.Itemset.{Itemset}
 use Rattle.form_expr.specs.declared.pending.Pending.{Pending}
 use Rattle.form_expr.specs.declared.pending.Pending.TheVariants as pend
-use Rattle.form_expr.specs.declared.expected.Expected.{Expected}
 use Rattle.form_expr.specs.declared.expected.Expected.TheVariants as want
 use Rattle.form_expr.specs.Words.{operator_of, function_of, arguments, is_number_taken, is_more_taken, may_take, takes_more, is_no_slash}
 use Rattle.form_expr.specs.Precedence.{level, Link, IsTree}
 use Rattle.form_expr.specs.Grammar.{rows_of, IsOperand, AreArgs, AreLinks, IsExpr, number, text, period, absolute, relative, column, negative, group, call_alone, call, item, first, next, none, link, grouped, all_rows, filtered, IsItemset, IsWholeExpr, IsWholeItemset}
-use Rattle.form_expr.specs.Machine.{State, at, depth, has_room, is_inside, is_in_itemset, tightness, bound_by, behind, step, when, opened_call, word_step, column_of_path, when_alone, expr_start, expr_end, itemset_start, itemset_end}
-use Rattle.form_expr.proofs.Trees.{top, bound_stays, push, after_links, after_append, tree_bound, zero_is_looser, one_is_no_tighter, inside_bound, same_links, links_top, links_outside, level_low, level_high}
-use Rattle.rosa_pieces.proofs.Steps.{bind_some}
+use Rattle.form_expr.specs.Machine.{State, at, depth, has_room, is_inside, is_in_itemset, bound_by, behind, step, opened_call, when_alone, expr_start, expr_end, itemset_start, itemset_end}
+use Rattle.form_expr.proofs.Trees.{top, bound_stays, push, after_links, after_append, tree_bound, zero_is_looser, one_is_no_tighter, inside_bound, same_links, links_top, links_outside}
 
 -- ---- runs
 

@@ -7,8 +7,8 @@ use Rattle.std.proofs.lemmas.Str.{encodes-append, encodes-chars}
 use Rattle.field_text.specs.Xml.{is_xml_space, is_name_char, begins_as_name}
 use Rattle.rosa_pieces.specs.Reading.{◌>>=◌, past, past_one}
 use Rattle.form_tokens.specs.declared.token.Token.{Token}
-use Rattle.form_tokens.specs.declared.token.Token.TheVariants.{Digits, Quoted, Absolute, Relative, Name, Dot, Open, Close, OpenBracket, CloseBracket, Comma, Equal, NotEqual, Less, LessEqual, Greater, GreaterEqual, Plus, Minus, Star}
-use Rattle.form_tokens.specs.Tokens.{is_digit, digits_at, is_inside, text_before, quoted_at, past_names, past_attribute, absolute_at, past_steps, dotted_at, name_at, sign_or, not_equal_at, sign_at, digits_token, token_at}
+use Rattle.form_tokens.specs.declared.token.Token.TheVariants.{Quoted, Absolute, Relative, Name, Dot, Open, Close, OpenBracket, CloseBracket, Comma, Equal, NotEqual, Less, LessEqual, Greater, GreaterEqual, Plus, Minus, Star}
+use Rattle.form_tokens.specs.Tokens.{is_digit, digits_at, is_inside, text_before, quoted_at, past_names, past_attribute, absolute_at, past_steps, dotted_at, name_at, sign_or, not_equal_at, sign_at, token_at}
 use Rattle.form_expr.specs.Laws.{AreFirst}
 
 pub record IsEnd (rest cs : List ℕ) : Type 0 where

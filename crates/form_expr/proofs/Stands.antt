@@ -1,13 +1,10 @@
 -- What the reader's stack stands for: the tokens so far, by the grammar.
-use Rattle.std.proofs.Common.{◌≡◌, ℕ, ℤ, zero, suc, pos, ◌+◌, ◌-◌, ◌<◌, ◌≤◌, Bool, true, false, cond, List, [], ◌∷◌, ◌++◌, codes, length, Option, Some, None, refl, sym, ap, subst, ◌∙◌, arith, append_assoc}
+use Rattle.std.proofs.Common.{◌≡◌, ℕ, suc, ◌-◌, ◌<◌, Bool, true, false, List, [], ◌∷◌, ◌++◌, codes, length, Some, refl, sym, ap, subst, ◌∙◌, arith, append_assoc}
 use Rattle.std.specs.Prelude.{nat_lt}
 use Rattle.std.specs.List.{list_all}
-use Rattle.std.proofs.lemmas.Bool.{ltb-true, cases_Bool}
-use Rattle.std.proofs.lemmas.List.{length-append, append-nil}
-use Rattle.rosa_pieces.specs.Reading.{◌>>=◌}
-use Rattle.rosa_pieces.proofs.Steps.{bind_some, chosen_some, some_is}
+use Rattle.std.proofs.lemmas.Bool.{ltb-true}
+use Rattle.std.proofs.lemmas.List.{append-nil}
 use Rattle.form_def.specs.declared.expr.Func.{Func}
-use Rattle.form_def.specs.declared.expr.Op.{Op}
 use Rattle.form_tokens.specs.declared.token.Token.{Token}
 use Rattle.form_tokens.specs.declared.token.Token.TheVariants as tok
 use Rattle.form_expr.specs.declared.syntax.Syntax.{Syntax}
@@ -16,11 +13,11 @@ use Rattle.form_expr.specs.declared.pending.Pending.{Pending}
 use Rattle.form_expr.specs.declared.pending.Pending.TheVariants as pend
 use Rattle.form_expr.specs.declared.expected.Expected.{Expected}
 use Rattle.form_expr.specs.declared.expected.Expected.TheVariants as want
-use Rattle.form_expr.specs.Words.{operator_of, function_of, arguments, is_number_taken, is_more_taken, may_take, takes_more, is_no_slash}
-use Rattle.form_expr.specs.Precedence.{level, Link, IsTree}
-use Rattle.form_expr.specs.Grammar.{rows_of, IsOperand, AreArgs, AreLinks, IsExpr, negative, first, next, none, link, grouped}
-use Rattle.form_expr.specs.Machine.{State, at, depth, has_room, is_inside, is_in_itemset, bound_by, behind, opened_call}
-use Rattle.form_expr.proofs.Trees.{top, bound_stays, push, after_links, after_append, tree_bound, zero_is_looser, one_is_no_tighter, some_tree, same_links, links_top, links_outside}
+use Rattle.form_expr.specs.Words.{function_of, may_take, takes_more}
+use Rattle.form_expr.specs.Precedence.{level, Link}
+use Rattle.form_expr.specs.Grammar.{rows_of, IsOperand, AreArgs, AreLinks, IsExpr, negative, first, next, none, grouped}
+use Rattle.form_expr.specs.Machine.{State, depth, has_room, is_inside, is_in_itemset, bound_by, behind}
+use Rattle.form_expr.proofs.Trees.{top, bound_stays, after_links, tree_bound, zero_is_looser, one_is_no_tighter, some_tree, same_links, links_top, links_outside}
 use Rattle.form_expr.proofs.Complete.{stays_behind}
 
 -- how many parentheses and brackets may still open

@@ -1,10 +1,9 @@
 -- A step keeps what the stack stands for, with one more token.
-use Rattle.std.proofs.Common.{◌≡◌, ℕ, ℤ, zero, suc, ◌+◌, ◌-◌, ◌<◌, ◌==◌, Bool, true, false, cond, List, [], ◌∷◌, ◌++◌, codes, length, Option, Some, None, refl, sym, ap, subst, ◌∙◌, arith, append_assoc, inl, inr}
-use Rattle.std.specs.Prelude.{nat_lt}
+use Rattle.std.proofs.Common.{◌≡◌, ℕ, zero, suc, ◌+◌, ◌==◌, Bool, true, false, cond, List, [], ◌∷◌, ◌++◌, codes, length, Option, Some, None, refl, sym, ap, subst, ◌∙◌, arith, append_assoc}
 use Rattle.std.specs.List.{list_all}
 use Rattle.std.specs.Str.{bytes_eq}
-use Rattle.std.proofs.lemmas.Bool.{cases_Bool, eqb-true, lt-ltb}
-use Rattle.std.proofs.lemmas.List.{length-append, append-nil}
+use Rattle.std.proofs.lemmas.Bool.{eqb-true, lt-ltb}
+use Rattle.std.proofs.lemmas.List.{length-append}
 use Rattle.rosa_pieces.specs.Reading.{◌>>=◌}
 use Rattle.rosa_pieces.proofs.Steps.{bind_some, chosen_some, some_is}
 use Rattle.form_def.specs.declared.expr.Func.{Func}
@@ -19,12 +18,12 @@ use Rattle.form_expr.specs.declared.pending.Pending.TheVariants as pend
 use Rattle.form_expr.specs.declared.expected.Expected.{Expected}
 use Rattle.form_expr.specs.declared.expected.Expected.TheVariants as want
 use Rattle.form_expr.specs.Words.{operator_of, function_of, arguments, is_number_taken, is_more_taken, may_take, takes_more, is_no_slash}
-use Rattle.form_expr.specs.Precedence.{level, Link}
-use Rattle.form_expr.specs.Grammar.{rows_of, IsOperand, AreArgs, AreLinks, IsExpr, IsItemset, IsWholeExpr, IsWholeItemset, number, text, period, absolute, relative, column, group, call_alone, call, item, link, all_rows, filtered}
-use Rattle.form_expr.specs.Machine.{State, at, depth, has_room, is_inside, is_in_itemset, bound_by, behind, before_operand, with_operator, step, step_at, when, opened_call, word_step, name_step, outside_step, group_step, operand_step, closed_call, next_argument, close_step, comma_step, bracket_step, end_step, operator_or_end, operator_step, call_step, column_step, named_step, is_open, is_close, is_open_bracket, is_instance, is_rows, table_step, column_of_path, column_of, value_step, expr_start, expr_end, expr_end_at, itemset_start, itemset_end, itemset_end_at, when_alone}
+use Rattle.form_expr.specs.Precedence.{level}
+use Rattle.form_expr.specs.Grammar.{rows_of, IsOperand, IsExpr, IsWholeExpr, IsWholeItemset, number, text, period, absolute, relative, column, group, call_alone, call, item, link, all_rows, filtered}
+use Rattle.form_expr.specs.Machine.{State, at, has_room, is_inside, is_in_itemset, bound_by, behind, before_operand, with_operator, step, step_at, when, opened_call, word_step, name_step, outside_step, group_step, operand_step, close_step, comma_step, bracket_step, end_step, operator_or_end, operator_step, call_step, column_step, named_step, is_open, is_close, is_open_bracket, is_instance, is_rows, table_step, column_of_path, column_of, value_step, expr_start, expr_end, expr_end_at, itemset_start, itemset_end, itemset_end_at, when_alone}
 use Rattle.form_expr.proofs.Trees.{push, after_links, after_append}
 use Rattle.form_expr.proofs.Complete.{same_bytes}
-use Rattle.form_expr.proofs.Stands.{room, no_args, more_args, all_args, Based, Before, nothing, in_itemset, in_group, in_call, in_filter, operators, minus, based_before, before_outside, operand_at, room_more, IsBehind, AreArgsBefore, RowsBefore, rows_outside, rows_alone, IsInRows, IsInCall, StandsAt, Stands, operand_stands, IsEnded, may_be_ended}
+use Rattle.form_expr.proofs.Stands.{room, no_args, more_args, all_args, Based, Before, nothing, in_itemset, in_group, in_call, in_filter, operators, minus, based_before, before_outside, operand_at, room_more, IsBehind, AreArgsBefore, RowsBefore, rows_outside, rows_alone, IsInRows, IsInCall, StandsAt, Stands, operand_stands, may_be_ended}
 
 when_true : {A : Type 0} (b : Bool) (x y : A) → when b x ≡ Some y → (b ≡ true) × (x ≡ y)
 when_true true x y e = (refl, some_is x y e)

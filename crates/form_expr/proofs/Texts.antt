@@ -1,5 +1,5 @@
 -- What a text is read as is what the grammar says of its tokens.
-use Rattle.std.proofs.Common.{◌≡◌, ℕ, zero, suc, ◌+◌, ◌-◌, ◌<◌, ◌≤◌, Bool, true, false, cond, List, [], ◌∷◌, ◌++◌, length, Option, Some, None, Result, Ok, Err, refl, sym, ap, subst, ◌∙◌, arith, append_assoc, encode_utf8_all, inl, inr}
+use Rattle.std.proofs.Common.{◌≡◌, ℕ, zero, suc, ◌<◌, ◌≤◌, Bool, true, false, cond, List, [], ◌∷◌, ◌++◌, length, Option, Some, None, Result, Ok, Err, refl, sym, ap, subst, ◌∙◌, arith, append_assoc}
 use Rattle.std.specs.Prelude.{nat_lt, IfOk, IfErr}
 use Rattle.std.specs.Str.{chars, IsUtf8}
 use Rattle.std.proofs.lemmas.Bool.{ltb-true, ltb-false, le-ltb}
@@ -16,8 +16,8 @@ use Rattle.form_expr.specs.declared.syntax.ExprFault.TheVariants.{BadExpr, NoMem
 use Rattle.form_expr.specs.Grammar.{Begins, IsWholeExpr, IsWholeItemset}
 use Rattle.form_expr.specs.Machine.{State, step, expr_start, expr_end, itemset_start, itemset_end}
 use Rattle.form_expr.specs.Reading.{taken, goes_on, read_on, read_from, read_all, placed, place_before, ended, or_place, longest_text, expr_of, itemset_of, Reads}
-use Rattle.form_expr.specs.Laws.{AreFirst, Spells, CantGoOn, StopsAt, IsRefused, long, stops, ReadsAs, RefusedAs}
-use Rattle.form_expr.proofs.Readings.{IsTaken, taken_is, taken_is_long, read_next, read_ends}
+use Rattle.form_expr.specs.Laws.{AreFirst, Spells, CantGoOn, long, stops, ReadsAs, RefusedAs}
+use Rattle.form_expr.proofs.Readings.{taken_is, taken_is_long, read_next, read_ends}
 use Rattle.form_expr.proofs.Complete.{run, expr_runs_whole, itemset_runs}
 use Rattle.form_expr.proofs.Stands.{Stands}
 use Rattle.form_expr.proofs.Steps.{step_stands, expr_stands, expr_ends, itemset_stands, itemset_ends}

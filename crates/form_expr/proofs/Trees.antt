@@ -1,8 +1,8 @@
 -- What waits behind operands and operators binds the last operand as the tree by precedence does.
-use Rattle.std.proofs.Common.{◌≡◌, ℕ, suc, ◌+◌, ◌<◌, ◌≤◌, Bool, true, false, ◌&&◌, cond, List, [], ◌∷◌, ◌++◌, refl, sym, ap, ◌∙◌, arith, inl, inr}
+use Rattle.std.proofs.Common.{◌≡◌, ℕ, ◌<◌, Bool, true, false, cond, List, [], ◌∷◌, ◌++◌, refl, ap, ◌∙◌, arith, inl, inr}
 use Rattle.std.specs.Prelude.{nat_lt, nat_le}
-use Rattle.std.specs.List.{list_all, list_any}
-use Rattle.std.proofs.lemmas.Bool.{and_parts, and_from, leb-true, leb-false, le-leb, lt-leb, lt-ltb, ltb-true, ltb-false, cases_Bool}
+use Rattle.std.specs.List.{list_all}
+use Rattle.std.proofs.lemmas.Bool.{and_parts, and_from, leb-true, leb-false, le-leb, lt-leb, lt-ltb, ltb-true, cases_Bool}
 use Rattle.form_def.specs.declared.expr.Op.{Op}
 use Rattle.form_def.specs.declared.expr.Op.TheVariants.{Or, And, Equal, NotEqual, Less, LessEqual, Greater, GreaterEqual, Add, Subtract, Multiply, Modulo}
 use Rattle.form_expr.specs.declared.syntax.Syntax.{Syntax}
@@ -10,7 +10,7 @@ use Rattle.form_expr.specs.declared.syntax.Syntax.TheVariants.{Pair}
 use Rattle.form_expr.specs.declared.pending.Pending.{Pending}
 use Rattle.form_expr.specs.declared.pending.Pending.TheVariants as pend
 use Rattle.form_expr.specs.Precedence.{level, Link, IsTree, alone, pair}
-use Rattle.form_expr.specs.Machine.{depth, is_filter, is_inside, is_itemset, is_in_itemset, tightness, bound, bound_by}
+use Rattle.form_expr.specs.Machine.{depth, is_inside, is_in_itemset, tightness, bound, bound_by}
 
 -- ---- levels
 

@@ -1,13 +1,12 @@
 -- Something whole begins with the tokens of each state that the reader reaches.
-use Rattle.std.proofs.Common.{◌≡◌, ℕ, ℤ, zero, suc, pos, ◌+◌, ◌-◌, ◌<◌, ◌≤◌, ◌==◌, Bool, true, false, cond, List, [], ◌∷◌, ◌++◌, codes, length, Option, Some, None, refl, sym, ap, subst, ◌∙◌, arith, append_assoc}
-use Rattle.std.proofs.lemmas.Bool.{lt-ltb, ltb-true, eq-eqb, cases_Bool}
+use Rattle.std.proofs.Common.{◌≡◌, ℕ, zero, suc, pos, ◌+◌, ◌-◌, Bool, true, false, List, [], ◌∷◌, ◌++◌, codes, length, Option, Some, None, refl, sym, ap, subst, ◌∙◌, arith, append_assoc}
+use Rattle.std.proofs.lemmas.Bool.{lt-ltb, ltb-true, eq-eqb}
 use Rattle.std.proofs.lemmas.List.{length-append, append-nil}
 use Rattle.form_def.specs.declared.expr.Func.{Func}
 use Rattle.form_tokens.specs.declared.token.Token.{Token}
 use Rattle.form_tokens.specs.declared.token.Token.TheVariants as tok
 use Rattle.form_expr.specs.declared.syntax.Syntax.{Syntax}
 use Rattle.form_expr.specs.declared.syntax.Syntax.TheVariants as syn
-use Rattle.form_expr.specs.declared.syntax.Itemset.{Itemset}
 use Rattle.form_expr.specs.declared.pending.Pending.{Pending}
 use Rattle.form_expr.specs.declared.pending.Pending.TheVariants as pend
 use Rattle.form_expr.specs.declared.expected.Expected.{Expected}
@@ -15,10 +14,9 @@ use Rattle.form_expr.specs.declared.expected.Expected.TheVariants as want
 use Rattle.form_expr.specs.Words.{function_of, arguments, is_number_taken, is_more_taken, may_take, takes_more}
 use Rattle.form_expr.specs.Precedence.{Link, alone}
 use Rattle.form_expr.specs.Grammar.{rows_of, IsOperand, AreArgs, AreLinks, IsExpr, IsWholeExpr, IsWholeItemset, Begins, number, column, negative, group, call_alone, call, item, first, next, none, grouped, all_rows, filtered}
-use Rattle.form_expr.specs.Machine.{State, depth, has_room, is_inside}
+use Rattle.form_expr.specs.Machine.{State, has_room, is_inside}
 use Rattle.form_expr.proofs.Trees.{after_links, some_tree, same_links}
-use Rattle.form_expr.proofs.Complete.{takes_some}
-use Rattle.form_expr.proofs.Stands.{room, all_args, Based, Before, nothing, in_itemset, in_group, in_call, in_filter, operators, minus, operand_at, room_more, IsBehind, RowsBefore, rows_outside, rows_alone, IsInRows, IsInCall, IsAtValue, StandsAt, Stands, may_be_ended}
+use Rattle.form_expr.proofs.Stands.{room, all_args, Based, Before, nothing, in_itemset, in_group, in_call, in_filter, operators, minus, operand_at, room_more, IsBehind, RowsBefore, rows_outside, rows_alone, IsInRows, IsInCall, StandsAt, Stands, may_be_ended}
 
 abbrev pub WholeBegins : Bool → List Token → Type 0
 WholeBegins false ts = Begins IsWholeExpr ts
