@@ -9,3 +9,4 @@ pub mod Steps
 pub mod Viable
 pub mod Ends
 pub mod Texts
+pub mod Nesting

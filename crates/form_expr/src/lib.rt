@@ -2,6 +2,7 @@
 #![tactic(auto)]
 
 mod expected;
+mod laws;
 mod pending;
 mod progress;
 mod reading;
@@ -10,5 +11,6 @@ mod syntax;
 mod tests;
 mod words;
 
+pub use laws::room_is_nesting;
 pub use reading::{read_expr, read_itemset};
 pub use syntax::{ExprFault, Itemset, Syntax};
