@@ -1,5 +1,5 @@
 -- An expression with so much room has at most so many parentheses and brackets open at one place, and the other way round.
-use Rattle.std.proofs.Common.{◌≡◌, ℕ, ℤ, zero, suc, ◌+◌, ◌-◌, ◌≤◌, Bool, true, false, List, [], ◌∷◌, ◌++◌, codes, Some, None, refl, sym, ap, subst, ◌∙◌, arith, append_assoc}
+use Rattle.std.proofs.Common.{◌≡◌, ℕ, suc, ◌+◌, ◌-◌, ◌≤◌, Bool, true, List, [], ◌∷◌, ◌++◌, Some, refl, sym, subst, arith, append_assoc}
 use Rattle.std.proofs.lemmas.List.{append-nil}
 use Rattle.form_def.specs.declared.expr.Op.{Op}
 use Rattle.form_tokens.specs.declared.token.Token.{Token}
@@ -9,7 +9,7 @@ use Rattle.form_expr.specs.declared.syntax.Itemset.{Itemset}
 use Rattle.form_expr.specs.Words.{operator_of}
 use Rattle.form_expr.specs.Precedence.{Link}
 use Rattle.form_expr.specs.Grammar.{rows_of, IsOperand, AreArgs, AreLinks, IsExpr, IsItemset, number, text, period, absolute, relative, column, negative, group, call_alone, call, item, first, next, none, link, grouped, all_rows, filtered}
-use Rattle.form_expr.specs.Nesting.{one_less, depth_behind, IsWithin}
+use Rattle.form_expr.specs.Nesting.{depth_behind, IsWithin}
 
 within_as : (most depth : ℕ) (ts us : List Token) → ts ≡ us → IsWithin most depth ts → IsWithin most depth us
 within_as most depth ts us e h = subst (λ (x : List Token). IsWithin most depth x) e h
