@@ -1,5 +1,5 @@
 -- A path that doesn't begin with a slash has no column.
-use Rattle.std.proofs.Common.{◌≡◌, ℕ, ◌==◌, Bool, true, false, List, [], ◌∷◌, Option, None, refl, ap, cond}
+use Rattle.std.proofs.Common.{◌≡◌, ℕ, ◌==◌, List, [], ◌∷◌, None, refl, ap}
 use Rattle.std.specs.List.{list_all}
 use Rattle.std.proofs.lemmas.Bool.{eqb-true, cond-false, false_from_ne_true}
 use Rattle.form_expr.specs.Words.{is_no_slash}

@@ -3,3 +3,10 @@ pub mod Columns
 pub mod Tokens
 pub mod Readings
 pub mod Trees
+pub mod Complete
+pub mod Stands
+pub mod Steps
+pub mod Viable
+pub mod Ends
+pub mod Texts
+pub mod Nesting

@@ -1,5 +1,5 @@
 -- Reading on, token by token.
-use Rattle.std.proofs.Common.{◌≡◌, ℕ, zero, suc, ◌<◌, List, [], ◌∷◌, length, Option, Some, None, Result, Ok, Err, refl, sym, ap, subst, ◌∙◌, arith}
+use Rattle.std.proofs.Common.{◌≡◌, ℕ, zero, suc, ◌<◌, List, [], ◌∷◌, length, Option, Some, None, Ok, Err, refl, sym, ap, ◌∙◌, arith}
 use Rattle.field_text.specs.Xml.{is_xml_space}
 use Rattle.rosa_pieces.specs.Reading.{◌>>=◌, past}
 use Rattle.rosa_pieces.proofs.Steps.{bind_some}

@@ -1,9 +1,9 @@
 -- Reversed, a stack has as many open parentheses and as many filters.
-use Rattle.std.proofs.Common.{◌≡◌, ℕ, ◌+◌, Bool, true, false, ◌||◌, List, [], ◌∷◌, ◌++◌, reverse, refl, sym, ap, ◌∙◌, arith}
+use Rattle.std.proofs.Common.{◌≡◌, ◌+◌, Bool, true, false, ◌||◌, List, [], ◌∷◌, ◌++◌, reverse, refl, ap, ◌∙◌, arith}
 use Rattle.std.specs.List.{list_any}
 use Rattle.std.proofs.lemmas.List.{reverse-append}
 use Rattle.form_expr.specs.declared.pending.Pending.{Pending}
-use Rattle.form_expr.specs.Machine.{depth, is_filter}
+use Rattle.form_expr.specs.Machine.{depth}
 
 depth_append : (a b : List Pending) → depth (a ++ b) ≡ depth a + depth b
 depth_append [] b = omega arith

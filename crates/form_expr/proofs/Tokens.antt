@@ -1,12 +1,12 @@
 -- A token has characters.
-use Rattle.std.proofs.Common.{◌≡◌, ℕ, zero, suc, ◌<◌, ◌≤◌, ◌+◌, ◌*◌, ◌-◌, ◌==◌, Bool, true, false, cond, ◌&&◌, ◌||◌, List, [], ◌∷◌, length, Option, Some, None, refl, sym, subst, arith}
+use Rattle.std.proofs.Common.{◌≡◌, ℕ, zero, suc, ◌<◌, ◌≤◌, ◌+◌, ◌*◌, ◌-◌, ◌==◌, Bool, true, false, cond, ◌&&◌, ◌||◌, List, [], ◌∷◌, length, Option, Some, None, refl, subst, arith}
 use Rattle.std.proofs.lemmas.Bool.{cond_both}
-use Rattle.field_text.specs.Xml.{is_xml_space, is_name_start, is_name_char, begins_as_name}
+use Rattle.field_text.specs.Xml.{is_name_char, begins_as_name}
 use Rattle.rosa_pieces.specs.Reading.{◌>>=◌, past, past_one}
 use Rattle.rosa_pieces.proofs.Fronts.{rest_fits}
 use Rattle.rosa_pieces.proofs.Steps.{start_is_char}
 use Rattle.form_tokens.specs.declared.token.Token.{Token}
-use Rattle.form_tokens.specs.declared.token.Token.TheVariants.{Digits, Quoted, Absolute, Relative, Name, Dot, Open, Close, OpenBracket, CloseBracket, Comma, Equal, NotEqual, Less, LessEqual, Greater, GreaterEqual, Plus, Minus, Star}
+use Rattle.form_tokens.specs.declared.token.Token.TheVariants.{Quoted, Absolute, Relative, Name, Dot, Open, Close, OpenBracket, CloseBracket, Comma, Equal, NotEqual, Less, LessEqual, Greater, GreaterEqual, Plus, Minus, Star}
 use Rattle.form_tokens.specs.Tokens.{is_digit, digits_at, is_inside, text_before, quoted_at, past_names, past_attribute, absolute_at, past_steps, dotted_at, name_at, sign_or, not_equal_at, sign_at, digits_token, token_at}
 
 -- what is read leaves fewer characters than so many

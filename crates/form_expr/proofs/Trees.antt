@@ -1,8 +1,8 @@
 -- What waits behind operands and operators binds the last operand as the tree by precedence does.
-use Rattle.std.proofs.Common.{◌≡◌, ℕ, suc, ◌+◌, ◌<◌, ◌≤◌, Bool, true, false, ◌&&◌, cond, List, [], ◌∷◌, ◌++◌, refl, sym, ap, ◌∙◌, arith, inl, inr}
+use Rattle.std.proofs.Common.{◌≡◌, ℕ, ◌<◌, Bool, true, false, cond, List, [], ◌∷◌, ◌++◌, refl, ap, ◌∙◌, arith, inl, inr}
 use Rattle.std.specs.Prelude.{nat_lt, nat_le}
-use Rattle.std.specs.List.{list_all, list_any}
-use Rattle.std.proofs.lemmas.Bool.{and_parts, and_from, leb-true, leb-false, le-leb, lt-leb, lt-ltb, ltb-true, ltb-false, cases_Bool}
+use Rattle.std.specs.List.{list_all}
+use Rattle.std.proofs.lemmas.Bool.{and_parts, and_from, leb-true, leb-false, le-leb, lt-leb, lt-ltb, ltb-true, cases_Bool}
 use Rattle.form_def.specs.declared.expr.Op.{Op}
 use Rattle.form_def.specs.declared.expr.Op.TheVariants.{Or, And, Equal, NotEqual, Less, LessEqual, Greater, GreaterEqual, Add, Subtract, Multiply, Modulo}
 use Rattle.form_expr.specs.declared.syntax.Syntax.{Syntax}
@@ -10,7 +10,7 @@ use Rattle.form_expr.specs.declared.syntax.Syntax.TheVariants.{Pair}
 use Rattle.form_expr.specs.declared.pending.Pending.{Pending}
 use Rattle.form_expr.specs.declared.pending.Pending.TheVariants as pend
 use Rattle.form_expr.specs.Precedence.{level, Link, IsTree, alone, pair}
-use Rattle.form_expr.specs.Machine.{depth, is_filter, is_inside, is_itemset, is_in_itemset, tightness, bound, bound_by}
+use Rattle.form_expr.specs.Machine.{depth, is_inside, is_in_itemset, tightness, bound, bound_by}
 
 -- ---- levels
 
@@ -109,9 +109,9 @@ tree_bound ls last e (pair before after link _ left right no-tighter tighter l r
     let tights = all_parts (λ (x : Link). nat_le n (level x.op)) before (link ∷ after) tight in
     let tight-link = and_parts (nat_le n (level link.op)) (list_all (λ (x : Link). nat_le n (level x.op)) after) tights.1 in
     let first : bound_by (level link.op) (after_links k before) link.left ≡ (k, left) =
-        tree_bound before link.left left l (level link.op) k loose.0 no-tighter ∙ bound_stays (level link.op) k left (ltb-true (top k) (level link.op) loose-link.0) in
+    tree_bound before link.left left l (level link.op) k loose.0 no-tighter ∙ bound_stays (level link.op) k left (ltb-true (top k) (level link.op) loose-link.0) in
     let pushed : after_links k (before ++ link ∷ after) ≡ after_links (pend.Left left link.op ∷ k) after =
-        after_append k before (link ∷ after) ∙ ap (λ (x : List Pending × Syntax). after_links (push link.op x) after) first in
+    after_append k before (link ∷ after) ∙ ap (λ (x : List Pending × Syntax). after_links (push link.op x) after) first in
     let rest : bound_by n (after_links (pend.Left left link.op ∷ k) after) last ≡ bound_by n (pend.Left left link.op ∷ k) right = tree_bound after last right r n (pend.Left left link.op ∷ k) tighter tight-link.1 in
     let one : bound_by n (pend.Left left link.op ∷ k) right ≡ bound_by n k (Pair link.op left right) = rw (tight-link.0) refl in
     ap (λ (x : List Pending). bound_by n x last) pushed ∙ rest ∙ one

@@ -3,3 +3,5 @@ pub mod Precedence
 pub mod Grammar
 pub mod Machine
 pub mod Reading
+pub mod Laws
+pub mod Nesting

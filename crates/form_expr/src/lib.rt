@@ -11,6 +11,6 @@ mod syntax;
 mod tests;
 mod words;
 
-pub use laws::operands_have_a_tree;
+pub use laws::room_is_nesting;
 pub use reading::{read_expr, read_itemset};
 pub use syntax::{ExprFault, Itemset, Syntax};

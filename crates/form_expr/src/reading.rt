@@ -1,6 +1,10 @@
-ghost use Rattle.std.specs.Prelude.{◌≡◌, ◌-◌, length, IfOk, encode_utf8_all};
+ghost use Rattle.std.specs.Prelude.{◌≡◌, ◌-◌, length, Ok, IfOk, IfErr, encode_utf8_all};
 ghost use Rattle.std.specs.Str.{chars as chars_of};
 ghost use Rattle.rosa_pieces.specs.Reading.{Gives};
+ghost use Rattle.form_expr.specs.declared.syntax.Syntax.{Syntax};
+ghost use Rattle.form_expr.specs.declared.syntax.Itemset.{Itemset};
+ghost use Rattle.form_expr.specs.Grammar.{IsWholeExpr, IsWholeItemset};
+ghost use Rattle.form_expr.specs.Laws.{Spells, RefusedAs};
 ghost use Rattle.form_expr.specs.Machine.{expr_start as start_of_expr, itemset_start as start_of_itemset};
 ghost use Rattle.form_expr.specs.Reading.{state_of, taken, read_from, read_all, expr_of, itemset_of, Reads, IsReached};
 
@@ -111,9 +115,9 @@ fn read(alloc: Global, start: Progress, text: &str) -> Result<Progress, ExprFaul
     }
 }
 
-/// The expression that a text is.
+/// The expression, by the tokens of the text.
 #[tactic(auto, unfolding(crate::specs::Reading::expr_of))]
-pub fn read_expr(alloc: Global, text: &str) -> Result<Syntax, ExprFault>
+fn expr_in(alloc: Global, text: &str) -> Result<Syntax, ExprFault>
     ensures { Reads (λ syntax. syntax) result (expr_of text.now) }
 {
     let progress = read(alloc, expr_start(alloc), text)?;
@@ -125,9 +129,9 @@ pub fn read_expr(alloc: Global, text: &str) -> Result<Syntax, ExprFault>
     }
 }
 
-/// The itemset that a text is: the rows of a table, and the filter that chooses among them.
+/// The itemset, by the tokens of the text.
 #[tactic(auto, unfolding(crate::specs::Reading::itemset_of))]
-pub fn read_itemset(alloc: Global, text: &str) -> Result<Itemset, ExprFault>
+fn itemset_in(alloc: Global, text: &str) -> Result<Itemset, ExprFault>
     ensures { Reads (λ itemset. itemset) result (itemset_of text.now) }
 {
     let progress = read(alloc, itemset_start(alloc)?, text)?;
@@ -137,4 +141,26 @@ pub fn read_itemset(alloc: Global, text: &str) -> Result<Itemset, ExprFault>
             at: text.len() as u64,
         }),
     }
+}
+
+/// The expression that a text is: XPath 1.0 in a profile, with white space between tokens. A text that is none is refused
+/// at its first token with which no expression begins.
+pub fn read_expr(alloc: Global, text: &str) -> Result<Syntax, ExprFault>
+    ensures reads { Reads (λ syntax. syntax) result (expr_of text.now) }
+    ensures found { IfOk result (λ syntax. Spells IsWholeExpr text.now syntax) }
+    ensures refused { IfErr result (λ fault. RefusedAs IsWholeExpr text.now fault) }
+    ensures complete { (syntax : Syntax) → Spells IsWholeExpr text.now syntax → expr_of text.now ≡ Ok syntax }
+{
+    expr_in(alloc, text)
+}
+
+/// The itemset that a text is: the rows of a table, and the filter that chooses among them. A text that is none is refused
+/// as by `read_expr`.
+pub fn read_itemset(alloc: Global, text: &str) -> Result<Itemset, ExprFault>
+    ensures reads { Reads (λ itemset. itemset) result (itemset_of text.now) }
+    ensures found { IfOk result (λ itemset. Spells IsWholeItemset text.now itemset) }
+    ensures refused { IfErr result (λ fault. RefusedAs IsWholeItemset text.now fault) }
+    ensures complete { (itemset : Itemset) → Spells IsWholeItemset text.now itemset → itemset_of text.now ≡ Ok itemset }
+{
+    itemset_in(alloc, text)
 }

@@ -1,5 +1,0 @@
-use Rattle.form_expr.proofs.Trees.{some_tree}
-use Rattle.form_expr.proofs.laws.operands_have_a_tree.Goals as goal
-
-pub returns : goal.returns
-returns c = some_tree
