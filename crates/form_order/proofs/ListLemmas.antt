@@ -1,10 +1,9 @@
 -- Lists: their last element, and those that pass a test.
-use Rattle.std.specs.Prelude.{ℕ, zero, suc, ◌+◌, ◌<◌, ◌≤◌, ◌≡◌, ◌≢◌, Bool, true, false, not, ◌&&◌, ◌||◌, List, [], ◌∷◌, ◌++◌, length, All, AllPairs, Contains, nat_lt, refl}
-use Rattle.std.specs.List.{list_all, list_any, slice_index_or}
-use Rattle.std.proofs.Common.{ap, sym, subst, ◌∙◌, arith, eqb, get_or, eqb-true, eq-eqb, ltb-true, ltb-false, length-append}
-use Rattle.std.proofs.lemmas.Bool.{false≢true, eqb-false}
-use Rattle.std.proofs.lemmas.List.Elements.{All-contains, All-nil, All-cons, All-from_get_or, Contains-get_or, All-head, All-tail}
-use Rattle.std.proofs.lemmas.List.Quantifiers.{all_pairs_push}
+use Rattle.std.specs.Prelude.{ℕ, zero, suc, ◌+◌, ◌<◌, ◌≤◌, ◌≡◌, Bool, true, false, not, ◌&&◌, ◌||◌, List, [], ◌∷◌, ◌++◌, length, All, AllPairs, Contains, nat_lt, refl}
+use Rattle.std.specs.List.{list_all}
+use Rattle.std.proofs.Common.{ap, sym, subst, ◌∙◌, arith, eqb, get_or, ltb-true, ltb-false, length-append}
+use Rattle.std.proofs.lemmas.Bool.{false≢true}
+use Rattle.std.proofs.lemmas.List.Elements.{All-nil, All-cons, All-from_get_or, All-head, All-tail}
 use Rattle.std.proofs.Math.Seq.{get_or-append_seam}
 use Rattle.std.proofs.Math.ListN.{get_or-append}
 use Rattle.form_def.specs.Order.{is_among}
@@ -47,18 +46,6 @@ or-true false = refl
 or-assoc : (a b c : Bool) → (a || (b || c)) ≡ ((a || b) || c)
 or-assoc true b c = refl
 or-assoc false b c = refl
-
-any_true : (a b : Bool) → b ≡ true → (a || b) ≡ true
-any_true true b e = refl
-any_true false b e = e
-
-is_among-get_or : (xs : List ℕ) (i d : ℕ) → i < length xs → is_among xs (get_or xs i d) ≡ true
-is_among-get_or [] i d within = absurd (omega arith)
-is_among-get_or (x ∷ xs) zero d within = rw (eq-eqb x x refl) refl
-is_among-get_or (x ∷ xs) (suc i) d within = any_true (eqb x (get_or xs i d)) (is_among xs (get_or xs i d)) (is_among-get_or xs i d (omega arith))
-
-pub is_among-contains : (xs : List ℕ) (x : ℕ) → Contains xs x → is_among xs x ≡ true
-is_among-contains xs x (k, within, is) = subst (λ (y : ℕ). is_among xs y ≡ true) is (is_among-get_or xs k x within)
 
 -- what holds of the elements up to the last one, and at it
 pub pairs_front : (R : ℕ → ℕ → Type 0) (xs : List ℕ) (y : ℕ) → AllPairs R (xs ++ y ∷ []) → AllPairs R xs

@@ -1,20 +1,20 @@
 -- What a turn of a walk does to its marks, its path and its order.
-use Rattle.std.specs.Prelude.{ℕ, suc, ◌+◌, ◌<◌, ◌≤◌, ◌≡◌, ◌≢◌, Bool, true, false, not, ◌&&◌, ◌||◌, nat_lt, List, [], ◌∷◌, ◌++◌, length, All, AllPairs, Contains, sum_by, find, slice_set, Option, Some, None, refl}
+use Rattle.std.specs.Prelude.{ℕ, suc, ◌+◌, ◌<◌, ◌≤◌, ◌≡◌, ◌≢◌, Bool, true, false, not, ◌&&◌, nat_lt, List, [], ◌∷◌, ◌++◌, length, All, Contains, sum_by, slice_set, refl}
 use Rattle.std.specs.List.{list_all, slice_index_or}
-use Rattle.std.proofs.Common.{ap, sym, subst, ◌∙◌, arith, eqb, get_or, set, inl, inr, eqb-true, eq-eqb, length-append, length-set, get_or-set_same, get_or-set_other, lt-ltb}
+use Rattle.std.proofs.Common.{ap, sym, subst, ◌∙◌, arith, eqb, inl, inr, eqb-true, eq-eqb, length-append, length-set, get_or-set_same, get_or-set_other, lt-ltb}
 use Rattle.std.proofs.lemmas.Bool.{false≢true, eqb-false, ne_eqb}
-use Rattle.std.proofs.lemmas.List.Elements.{All-contains, All-push, All-weaker, All-nil, All-get_or, Contains-push, Contains-push_cases, Contains-append_left}
+use Rattle.std.proofs.lemmas.List.Elements.{All-contains, All-push, All-weaker, All-get_or, Contains-push, Contains-push_cases, Contains-append_left}
 use Rattle.std.proofs.lemmas.List.Quantifiers.{all_pairs_push}
 use Rattle.std.proofs.lemmas.List.Sums.{sum_by-set}
-use Rattle.form_def.specs.Order.{is_among, may_come, are_ordered}
+use Rattle.form_def.specs.Order.{is_among}
 use Rattle.form_order.specs.declared.walk.Mark.{Mark}
 use Rattle.form_order.specs.declared.walk.Mark.TheVariants.{New, OnPath, Placed}
 use Rattle.form_order.specs.declared.walk.Walk.{Walk}
 use Rattle.form_order.specs.Cycles.{Leads}
 use Rattle.form_order.specs.Rows.{row, AreWithin}
-use Rattle.form_order.specs.Walks.{mark_at, is_placed, is_placed_at, with_passed, entered, placed, with_last, steps_left, unplaced, IsWalk, HasCycle, Keeps, TakesTurn, Finishes, Visits, IsOrder}
-use Rattle.form_order.proofs.ListLemmas.{and-first, and-second, and-both, not-false, not-true, or-none, passes, pairs_front, pairs_last, all_front, all_last, list_all-at, by_bound, is_among-push, or-true, all_both}
-use Rattle.form_order.proofs.LeadsLemmas.{all_lead, leads_then, leads_within}
+use Rattle.form_order.specs.Walks.{mark_at, is_placed, is_placed_at, entered, placed, with_last, steps_left, unplaced, IsWalk, HasCycle, TakesTurn, IsOrder}
+use Rattle.form_order.proofs.ListLemmas.{and-both, not-true, or-none, pairs_front, pairs_last, all_front, all_last, list_all-at, by_bound, is_among-push, or-true, all_both}
+use Rattle.form_order.proofs.LeadsLemmas.{all_lead, leads_within}
 use Rattle.form_order.proofs.OrderLemmas.{are_ordered-push, no_cycle_among}
 
 set_same : (marks : List Mark) (number : ℕ) (m : Mark) → number < length marks → mark_at (slice_set marks number m) number ≡ m

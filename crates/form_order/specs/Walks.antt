@@ -1,5 +1,5 @@
 -- A walk over rows: from each number to those that it needs, until these are placed.
-use Rattle.std.specs.Prelude.{ℕ, ◌≡◌, ◌≢◌, ◌+◌, ◌<◌, Bool, true, false, List, [], ◌∷◌, ◌++◌, length, All, AllPairs, Contains, sum_by, slice_set, replicate, MatchBool}
+use Rattle.std.specs.Prelude.{ℕ, ◌≡◌, ◌≢◌, ◌+◌, ◌<◌, Bool, true, false, List, [], ◌∷◌, ◌++◌, length, All, AllPairs, Contains, sum_by, slice_set, replicate}
 use Rattle.std.specs.List.{slice_index_or}
 use Rattle.form_def.specs.Order.{is_among, are_ordered}
 use Rattle.form_order.specs.declared.walk.Mark.{Mark}
@@ -30,9 +30,6 @@ placed w number = record { marks = slice_set w.marks number Placed; path = w.pat
 
 abbrev pub with_last : Walk → ℕ → Walk
 with_last w number = record { marks = w.marks; path = w.path ++ number ∷ []; order = w.order; passed = w.passed }
-
-abbrev pub with_passed : Walk → ℕ → ℕ → Walk
-with_passed w number place = record { marks = w.marks; path = w.path; order = w.order; passed = slice_set w.passed number place }
 
 -- the steps that are left with a number
 abbrev pub steps_left : Mark → ℕ

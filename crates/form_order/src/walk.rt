@@ -61,9 +61,9 @@ pub struct Walk {
 }
 
 impl Walk {
-    ghost use Rattle.std.specs.Prelude.{List, [], IfOk, OnOk, MatchBool, Contains};
+    ghost use Rattle.std.specs.Prelude.{[], IfOk, OnOk, MatchBool, Contains};
     ghost use Rattle.form_order.specs.Rows.{row as row_at, AreWithin};
-    ghost use Rattle.form_order.specs.Walks.{unwalked, entered, placed, with_last, IsWalk, HasCycle, TakesTurn, Finishes, Visits, IsOrder};
+    ghost use Rattle.form_order.specs.Walks.{unwalked, entered, placed, with_last, IsWalk, HasCycle, TakesTurn, Finishes, Visits};
 
     pub fn new(alloc: Global, count: usize) -> Result<Walk, NoMemory>
         ensures { IfOk result (λ walk. walk ≡ unwalked count) }

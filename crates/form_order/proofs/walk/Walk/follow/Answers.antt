@@ -1,4 +1,4 @@
-use Rattle.std.proofs.Common.{◌≡◌, ◌≢◌, ◌<◌, length, sym, ap, ◌∙◌, subst, false, arith, rules}
+use Rattle.std.proofs.Common.{◌≡◌, ◌≢◌, ◌<◌, length, sym, ap, ◌∙◌, subst, arith, rules}
 use denote.Enum.Bare.{same_true, same_false}
 use Rattle.form_order.specs.contracts.walk.Mark.{the_type}
 use Rattle.form_order.specs.declared.walk.Mark.TheVariants.{OnPath}

@@ -1,4 +1,4 @@
-use Rattle.std.proofs.Common.{◌≡◌, ◌<◌, ◌≤◌, ℕ, true, slice_index, length, sym, ap, ◌∙◌, subst}
+use Rattle.std.proofs.Common.{slice_index, length, sym, ap, ◌∙◌, subst}
 use Rattle.form_order.specs.declared.walk.Walk.{Walk}
 use Rattle.form_order.specs.Rows.{row}
 use Rattle.form_order.specs.Walks.{TakesTurn}
