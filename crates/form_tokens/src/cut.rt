@@ -1,6 +1,6 @@
-ghost use Rattle.std.specs.Prelude.{◌≡◌, ◌<◌, ◌≤◌, ◌^◌, ℕ, pos, IfOk, length};
+ghost use Rattle.std.specs.Prelude.{◌≡◌, ◌<◌, ◌≤◌, ◌^◌, IfOk, length};
 ghost use Rattle.rosa_pieces.specs.Reading.{Gives};
-ghost use Rattle.form_tokens.specs.Tokens.{is_digit, digits_at, digits_token, quoted_at, absolute_at, dotted_at, name_at, sign_or, not_equal_at, sign_at, token_at};
+ghost use Rattle.form_tokens.specs.Tokens.{digits_at, digits_token, quoted_at, absolute_at, dotted_at, name_at, sign_or, not_equal_at, sign_at, token_at};
 ghost use Rattle.form_tokens.specs.Spelling.{StandsBefore, LeavesLeast, HasNoToken};
 
 use crate::Token;

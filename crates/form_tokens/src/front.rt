@@ -1,6 +1,6 @@
 ghost use Rattle.std.specs.Prelude.{◌≡◌, ◌≤◌, length, IfOk, encode_utf8_all};
 ghost use Rattle.field_text.specs.Xml.{is_xml_space as space, is_name_char as name_char, begins_as_name as begins};
-ghost use Rattle.rosa_pieces.specs.Reading.{Gives, front, past, past_one};
+ghost use Rattle.rosa_pieces.specs.Reading.{Gives, past, past_one};
 ghost use Rattle.form_tokens.specs.Tokens.{is_inside, text_before, past_names, past_attribute, past_steps};
 
 use field_text::xml::{is_name_char, is_name_start, is_xml_space};
