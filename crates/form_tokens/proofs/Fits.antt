@@ -1,13 +1,12 @@
 -- Characters that are passed, and how many are left.
-use Rattle.std.specs.Prelude.{ℕ, zero, suc, ◌≡◌, ◌+◌, ◌-◌, ◌*◌, ◌<◌, ◌≤◌, ◌==◌, Bool, true, false, cond, nat_le, ◌&&◌, ◌||◌, List, [], ◌∷◌, ◌++◌, length, refl}
+use Rattle.std.specs.Prelude.{ℕ, zero, suc, ◌≡◌, ◌+◌, ◌-◌, ◌*◌, ◌≤◌, ◌==◌, Bool, true, false, cond, nat_le, ◌&&◌, ◌||◌, List, [], ◌∷◌, ◌++◌, length, refl}
 use Rattle.std.specs.List.{list_all}
-use Rattle.std.proofs.Common.{sym, ap, subst, ◌∙◌, arith, append_assoc, eqb, eqb-true, leb-true}
+use Rattle.std.proofs.Common.{sym, ap, ◌∙◌, arith, append_assoc, eqb, eqb-true, leb-true}
 use Rattle.std.proofs.lemmas.Bool.{cond_both, false≢true, ne_eqb, lt-leb}
 use Rattle.field_text.specs.Xml.{is_name_start, is_name_char, begins_as_name, is_local_name}
-use Rattle.rosa_pieces.specs.Reading.{past, past_one}
+use Rattle.rosa_pieces.specs.Reading.{past}
 use Rattle.rosa_pieces.proofs.Fronts.{rest_fits}
-use Rattle.rosa_pieces.proofs.Steps.{start_is_char}
-use Rattle.form_tokens.specs.Tokens.{is_digit, digits_at, is_inside, past_names, past_attribute, past_steps}
+use Rattle.form_tokens.specs.Tokens.{is_digit, digits_at, past_names, past_attribute, past_steps}
 use Rattle.form_tokens.specs.Spelling.{are_names, slashed, steps}
 
 pub and-first : (a b : Bool) → (a && b) ≡ true → a ≡ true

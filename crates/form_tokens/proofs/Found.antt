@@ -1,9 +1,9 @@
 -- What is read stands at the front.
-use Rattle.std.specs.Prelude.{ℕ, zero, suc, pos, ◌≡◌, ◌+◌, ◌-◌, ◌*◌, ◌<◌, ◌≤◌, ◌==◌, Bool, true, false, cond, ◌&&◌, ◌||◌, List, [], ◌∷◌, ◌++◌, length, take, fold, Option, Some, None, encode_utf8_all, refl}
+use Rattle.std.specs.Prelude.{ℕ, zero, suc, pos, ◌≡◌, ◌+◌, ◌-◌, ◌*◌, ◌≤◌, ◌==◌, Bool, true, false, cond, ◌&&◌, ◌||◌, List, [], ◌∷◌, ◌++◌, length, take, fold, Option, Some, None, encode_utf8_all, refl}
 use Rattle.std.specs.List.{list_all}
-use Rattle.std.proofs.Common.{sym, ap, subst, ◌∙◌, arith, append_assoc, eqb, eq-eqb, eqb-true, length-append}
+use Rattle.std.proofs.Common.{sym, ap, subst, ◌∙◌, arith, append_assoc, eqb, eqb-true, length-append}
 use Rattle.std.proofs.Math.Seq.{take-append_seam}
-use Rattle.std.proofs.lemmas.Bool.{cond_both, false≢true}
+use Rattle.std.proofs.lemmas.Bool.{false≢true}
 use Rattle.field_text.specs.Xml.{is_name_start, is_name_char, begins_as_name, is_local_name}
 use Rattle.rosa_pieces.specs.Reading.{◌>>=◌, front, past, past_one}
 use Rattle.rosa_pieces.proofs.Fronts.{front_past, front_passes, take_front}

@@ -1,13 +1,13 @@
 -- What the function returns, by what spells tokens.
-use Rattle.std.specs.Prelude.{ℕ, ◌≡◌, ◌≤◌, ◌++◌, List, length, Option, Some, None, Result, Ok, Err, IfOk}
-use Rattle.std.proofs.Common.{sym, ap, subst, ◌∙◌, arith}
+use Rattle.std.specs.Prelude.{ℕ, ◌≡◌, List, length, None, Result, Ok, Err, IfOk}
+use Rattle.std.proofs.Common.{sym, subst}
 use denote.Ref.{Bor}
 use Rattle.rosa_pieces.specs.declared.unread.Unread.{Unread}
-use Rattle.rosa_pieces.specs.declared.unread.Unread.TheVariants.{Absent, NoMemory}
+use Rattle.rosa_pieces.specs.declared.unread.Unread.TheVariants.{Absent}
 use Rattle.rosa_pieces.specs.Reading.{Gives}
 use Rattle.form_tokens.specs.declared.token.Token.{Token}
 use Rattle.form_tokens.specs.Tokens.{token_at}
-use Rattle.form_tokens.specs.Spelling.{IsToken, StandsBefore, LeavesLeast, HasNoToken}
+use Rattle.form_tokens.specs.Spelling.{StandsBefore, LeavesLeast, HasNoToken}
 use Rattle.form_tokens.proofs.Found.{IsFound, token_found}
 use Rattle.form_tokens.proofs.Longest.{Leaves, token_read}
 

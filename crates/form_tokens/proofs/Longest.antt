@@ -1,16 +1,14 @@
 -- Each token at the front is read, or a longer one.
-use Rattle.std.specs.Prelude.{ℕ, zero, suc, pos, ◌≡◌, ◌+◌, ◌-◌, ◌*◌, ◌<◌, ◌≤◌, ◌==◌, Bool, true, false, cond, ◌&&◌, ◌||◌, List, [], ◌∷◌, ◌++◌, length, Option, Some, None, encode_utf8_all, refl}
+use Rattle.std.specs.Prelude.{ℕ, suc, ◌≡◌, ◌+◌, ◌-◌, ◌*◌, ◌<◌, ◌≤◌, ◌==◌, Bool, true, false, cond, ◌||◌, List, [], ◌∷◌, ◌++◌, length, Option, Some, None, refl}
 use Rattle.std.specs.List.{list_all}
-use Rattle.std.proofs.Common.{sym, ap, subst, ◌∙◌, arith, append_assoc, eqb, eq-eqb, eqb-true}
+use Rattle.std.proofs.Common.{sym, ap, subst, ◌∙◌, arith, append_assoc, eq-eqb, eqb-true}
 use Rattle.std.proofs.lemmas.Bool.{cond_both, false≢true}
 use Rattle.field_text.specs.Xml.{is_name_start, is_name_char, begins_as_name, is_local_name}
-use Rattle.rosa_pieces.specs.Reading.{◌>>=◌, past, past_one}
-use Rattle.rosa_pieces.proofs.Fronts.{past_at}
-use Rattle.rosa_pieces.proofs.Steps.{start_is_char}
+use Rattle.rosa_pieces.specs.Reading.{past}
 use Rattle.form_tokens.specs.declared.token.Token.{Token}
-use Rattle.form_tokens.specs.declared.token.Token.TheVariants.{Digits, Quoted, Absolute, Relative, Name, Dot, Open, Close, OpenBracket, CloseBracket, Comma, Equal, NotEqual, Less, LessEqual, Greater, GreaterEqual, Plus, Minus, Star}
-use Rattle.form_tokens.specs.Tokens.{is_digit, digits_at, is_inside, text_before, quoted_at, past_names, past_attribute, absolute_at, past_steps, dotted_at, name_at, sign_or, not_equal_at, sign_at, digits_token, token_at}
-use Rattle.form_tokens.specs.Spelling.{value_of, is_quote, are_names, slashed, steps, IsToken, digits, quoted, absolute, absolute_attribute, relative, named, dot, opening, closing, opening_bracket, closing_bracket, comma, equal, not_equal, less, less_equal, greater, greater_equal, plus, minus, star}
+use Rattle.form_tokens.specs.declared.token.Token.TheVariants.{Relative, Dot, Less, LessEqual, Greater, GreaterEqual}
+use Rattle.form_tokens.specs.Tokens.{is_digit, is_inside, text_before, quoted_at, past_names, past_attribute, absolute_at, past_steps, dotted_at, name_at, sign_or, not_equal_at, sign_at, token_at}
+use Rattle.form_tokens.specs.Spelling.{are_names, slashed, steps, IsToken, digits, quoted, absolute, absolute_attribute, relative, named, dot, opening, closing, opening_bracket, closing_bracket, comma, equal, not_equal, less, less_equal, greater, greater_equal, plus, minus, star}
 use Rattle.form_tokens.proofs.Fits.{and-first, and-second, past_fits, names_fit, attribute_fits, digits_pass, past_append, begins_append, name_chars, names_pass, no_start, no_digit, steps_pass, steps_shrink}
 
 -- something is read, and leaves at most so many characters
