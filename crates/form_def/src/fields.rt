@@ -1,4 +1,4 @@
-ghost use Rattle.std.specs.Prelude.{◌≡◌, ◌↔◌, ℕ, length, IsTrue, IfOk};
+ghost use Rattle.std.specs.Prelude.{◌≡◌, ◌↔◌, length, IsTrue, IfOk};
 ghost use Rattle.form_def.specs.Fields.{number_of, parent_of, parents_of, have_paths, PathsDiffer, LacksPath, reads_below, are_within};
 
 use crate::field::Field;

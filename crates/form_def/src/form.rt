@@ -1,4 +1,4 @@
-ghost use Rattle.std.specs.Prelude.{◌≡◌, AllPairs, length, true};
+ghost use Rattle.std.specs.Prelude.{◌≡◌, length, true};
 ghost use Rattle.form_def.specs.Paths.{is_name};
 ghost use Rattle.form_def.specs.Fields.{have_paths, PathsDiffer, parents_of, are_within};
 ghost use Rattle.form_def.specs.Order.{is_order};

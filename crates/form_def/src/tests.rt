@@ -184,3 +184,81 @@ fn a_constraint_reads_its_own_field(rt: HostRuntime) -> Result<(), Fail> {
     assert_eq!(rt; made.err(), Some(FormFault::BadOrder));
     Ok(())
 }
+
+/// A place of a field in which an expression may stand.
+#[derive(Clone, Copy, Debug)]
+enum Place {
+    Relevant,
+    Constraint,
+    Required,
+    Readonly,
+    Calculate,
+    Filter,
+}
+
+/// Puts an expression in a place of the field; as a filter, of this table's column.
+fn put(field: &mut Field, place: Place, expr: Expr, table: Text, value: Text) {
+    match place {
+        Place::Relevant => field.relevant = Some(expr),
+        Place::Constraint => field.constraint = Some(expr),
+        Place::Required => field.required = Some(expr),
+        Place::Readonly => field.readonly = Some(expr),
+        Place::Calculate => field.calculate = Some(expr),
+        Place::Filter => {
+            field.choices = Choices::Rows {
+                table,
+                filter: Some(expr),
+                value,
+            };
+        }
+    }
+}
+
+/// A field whose expression in this place, and no other, reads the field of the number.
+fn reader(alloc: Global, path: &str, place: Place, number: u64) -> Result<Field, Fail> {
+    let table = text(alloc, "kinds")?;
+    let value = text(alloc, "name")?;
+    let expr = reading(alloc, number)?;
+    let mut field = field(alloc, path)?;
+    put(&mut field, place, expr, table, value);
+    Ok(field)
+}
+
+/// What is refused of two fields in this order, the first of which reads the field of the number.
+fn refused(
+    alloc: Global,
+    place: Place,
+    number: u64,
+    order: &[u64],
+) -> Result<Option<FormFault>, Fail> {
+    let mut fields = Items::new(alloc);
+    fields.push(reader(alloc, "/data/a", place, number)?)?;
+    fields.push(field(alloc, "/data/b")?)?;
+    Ok(FormDef::new(alloc, parts(alloc, "data", fields, order)?).err())
+}
+
+// A place, and what is refused where a field that is read in it comes later, or is the field itself.
+static PLACES: [(Place, Option<FormFault>); 6] = [
+    (Place::Relevant, Some(FormFault::BadOrder)),
+    (Place::Constraint, None),
+    (Place::Required, None),
+    (Place::Readonly, None),
+    (Place::Calculate, Some(FormFault::BadOrder)),
+    (Place::Filter, None),
+];
+
+#[test]
+fn each_place_reads_fields_of_the_form(rt: HostRuntime) -> Result<(), Fail> {
+    let alloc = rt.alloc();
+    for (place, fault) in &PLACES {
+        let ordered = refused(alloc, *place, 1, &[1, 0])?;
+        assert_eq!(rt; ordered, None, "{place:?}");
+        let unordered = refused(alloc, *place, 1, &[0, 1])?;
+        assert_eq!(rt; unordered, *fault, "{place:?}");
+        let own = refused(alloc, *place, 0, &[0, 1])?;
+        assert_eq!(rt; own, *fault, "{place:?}");
+        let out_of_range = refused(alloc, *place, 2, &[1, 0])?;
+        assert_eq!(rt; out_of_range, Some(FormFault::OutOfRange), "{place:?}");
+    }
+    Ok(())
+}

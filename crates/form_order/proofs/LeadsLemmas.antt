@@ -1,12 +1,12 @@
 -- From number to number.
 use Rattle.std.specs.Prelude.{ℕ, ◌<◌, ◌≤◌, ◌≡◌, Bool, true, false, nat_lt, List, [], ◌∷◌, ◌++◌, length, All, AllPairs, Contains, refl}
-use Rattle.std.proofs.Common.{ap, sym, subst, ◌∙◌, arith, get_or, ltb-true, ltb-false}
+use Rattle.std.proofs.Common.{ap, subst, arith, ltb-true, ltb-false}
 use Rattle.std.proofs.lemmas.List.{get_or_past}
-use Rattle.std.proofs.lemmas.List.Elements.{All-contains, All-push, All-weaker}
+use Rattle.std.proofs.lemmas.List.Elements.{All-push, All-weaker}
 use Rattle.form_def.specs.Order.{is_among}
 use Rattle.form_order.specs.Cycles.{Leads, at_once, through}
 use Rattle.form_order.specs.Rows.{row}
-use Rattle.form_order.proofs.ListLemmas.{is_among-contains, pairs_last}
+use Rattle.form_order.proofs.ListLemmas.{pairs_last}
 
 pub leads_then : (needs : ℕ → List ℕ) (a b c : ℕ) → Leads needs a b → Contains (needs b) c → Leads needs a c
 leads_then needs a b c (at_once _ _ h) last = through a b c h (at_once b c last)

@@ -1,11 +1,11 @@
 -- Orders, one number more, and that none of theirs leads to itself.
-use Rattle.std.specs.Prelude.{ℕ, ◌<◌, ◌≡◌, Bool, true, false, not, ◌&&◌, ◌||◌, nat_lt, List, [], ◌∷◌, ◌++◌, length, Contains, refl}
+use Rattle.std.specs.Prelude.{ℕ, ◌≡◌, Bool, true, false, not, ◌&&◌, ◌||◌, nat_lt, List, [], ◌∷◌, ◌++◌, Contains, refl}
 use Rattle.std.specs.List.{list_all}
-use Rattle.std.proofs.Common.{ap, sym, subst, ◌∙◌, arith, eqb, eqb-true}
+use Rattle.std.proofs.Common.{ap, sym, subst, ◌∙◌, eqb, eqb-true}
 use Rattle.std.proofs.lemmas.Bool.{false≢true}
 use Rattle.form_def.specs.Order.{is_among, may_come, are_ordered}
 use Rattle.form_def.proofs.FieldLemmas.{may_come-same}
-use Rattle.form_order.specs.Cycles.{Leads, at_once, through}
+use Rattle.form_order.specs.Cycles.{Leads}
 use Rattle.form_order.proofs.ListLemmas.{and-first, and-second, and-both, not-false, or-none, passes}
 use Rattle.form_order.proofs.LeadsLemmas.{IsClosed, leads_into}
 

@@ -1,7 +1,6 @@
 -- What is found from a number.
-use Rattle.std.specs.Prelude.{ℕ, zero, suc, ◌+◌, ◌<◌, ◌≤◌, ◌≡◌, ◌≢◌, ◌↔◌, IsTrue, Bool, true, false, ◌||◌, cond, List, [], ◌∷◌, ◌++◌, length, All, Contains, sum_by, slice_get, slice_set, Some, None, replicate, nat_lt, refl}
-use Rattle.std.specs.List.{slice_index_or}
-use Rattle.std.proofs.Common.{ap, sym, subst, ◌∙◌, arith, eqb, get_or, inl, inr, eq-eqb, length-append, length-set, ltb-true, ltb-false, eqb-true}
+use Rattle.std.specs.Prelude.{ℕ, zero, suc, ◌+◌, ◌<◌, ◌≤◌, ◌≡◌, ◌≢◌, ◌↔◌, IsTrue, Bool, true, false, ◌||◌, cond, List, [], ◌∷◌, ◌++◌, length, All, Contains, sum_by, slice_get, slice_set, Some, replicate, nat_lt, refl}
+use Rattle.std.proofs.Common.{ap, sym, subst, ◌∙◌, arith, eqb, get_or, eq-eqb, length-append, length-set, ltb-true, ltb-false, eqb-true}
 use Rattle.std.proofs.Math.ListN.{get_or-append}
 use Rattle.std.proofs.lemmas.List.{length-replicate}
 use Rattle.std.proofs.lemmas.List.Elements.{All-contains, All-push, All-weaker, All-nil, All-cons, All-head, All-tail, All-get_or, All-contains_itself}
@@ -11,10 +10,10 @@ use Rattle.std.proofs.lemmas.Bool.{false≢true}
 use Rattle.form_def.specs.Order.{is_among, is_marked}
 use Rattle.form_def.proofs.FieldLemmas.{is_marked-set}
 use Rattle.form_order.specs.declared.reach.Reach.{Reach}
-use Rattle.form_order.specs.Cycles.{Leads, at_once, through}
+use Rattle.form_order.specs.Cycles.{Leads, at_once}
 use Rattle.form_order.specs.Rows.{row, AreWithin}
 use Rattle.form_order.specs.Reached.{unreached, with_found, with_all_found}
-use Rattle.form_order.proofs.ListLemmas.{is_among-push, or-true, passes}
+use Rattle.form_order.proofs.ListLemmas.{is_among-push, or-true}
 use Rattle.form_order.proofs.LeadsLemmas.{leads_then, leads_into}
 
 -- 1 for a number that isn't found

@@ -1,12 +1,12 @@
 -- The rows of a form's fields.
-use Rattle.std.specs.Prelude.{ℕ, zero, suc, ◌+◌, ◌<◌, ◌≤◌, ◌≡◌, Bool, true, false, ◌&&◌, nat_lt, List, [], ◌∷◌, ◌++◌, Option, Some, None, length, Contains, slice_get, position, cond, refl}
-use Rattle.std.specs.List.{slice_index_or, list_all, position_or_len}
+use Rattle.std.specs.Prelude.{ℕ, zero, suc, ◌+◌, ◌<◌, ◌≡◌, Bool, true, false, nat_lt, List, [], ◌∷◌, ◌++◌, Option, Some, None, length, Contains, slice_get, position, cond, refl}
+use Rattle.std.specs.List.{list_all, position_or_len}
 use Rattle.std.specs.Option.{option_map_or, option_to_list}
 use Rattle.std.proofs.Common.{ap, sym, subst, ◌∙◌, arith, eqb, eq-eqb, ltb-true, add-zero}
 use Rattle.std.proofs.lemmas.List.Folds.{list_all-append}
 use Rattle.form_def.specs.declared.field.Field.{Field}
 use Rattle.form_def.specs.Reads.{reads_of}
-use Rattle.form_def.specs.Fields.{parent_of, reads_of_choices, reads_of_field, reads_below, are_within}
+use Rattle.form_def.specs.Fields.{parent_of, reads_of_choices, reads_below, are_within}
 use Rattle.form_def.specs.Order.{dependencies, dependencies_at, are_ordered, is_order}
 use Rattle.form_order.specs.Rows.{rows_from, rows_of, row, AreWithin}
 use Rattle.form_order.specs.Cycles.{NoCycle, IsFirstCycle}

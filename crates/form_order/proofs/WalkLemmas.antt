@@ -1,20 +1,20 @@
 -- What a turn of a walk does to its marks, its path and its order.
-use Rattle.std.specs.Prelude.{ℕ, suc, ◌+◌, ◌<◌, ◌≤◌, ◌≡◌, ◌≢◌, Bool, true, false, not, ◌&&◌, ◌||◌, nat_lt, List, [], ◌∷◌, ◌++◌, length, All, AllPairs, Contains, sum_by, find, slice_set, Option, Some, None, refl}
+use Rattle.std.specs.Prelude.{ℕ, suc, ◌+◌, ◌<◌, ◌≤◌, ◌≡◌, ◌≢◌, Bool, true, false, not, ◌&&◌, nat_lt, List, [], ◌∷◌, ◌++◌, length, All, Contains, sum_by, slice_set, refl}
 use Rattle.std.specs.List.{list_all, slice_index_or}
-use Rattle.std.proofs.Common.{ap, sym, subst, ◌∙◌, arith, eqb, get_or, set, inl, inr, eqb-true, eq-eqb, length-append, length-set, get_or-set_same, get_or-set_other, lt-ltb}
+use Rattle.std.proofs.Common.{ap, sym, subst, ◌∙◌, arith, eqb, inl, inr, eqb-true, eq-eqb, length-append, length-set, get_or-set_same, get_or-set_other, lt-ltb}
 use Rattle.std.proofs.lemmas.Bool.{false≢true, eqb-false, ne_eqb}
-use Rattle.std.proofs.lemmas.List.Elements.{All-contains, All-push, All-weaker, All-nil, All-get_or, Contains-push, Contains-push_cases, Contains-append_left}
+use Rattle.std.proofs.lemmas.List.Elements.{All-contains, All-push, All-weaker, All-get_or, Contains-push, Contains-push_cases, Contains-append_left}
 use Rattle.std.proofs.lemmas.List.Quantifiers.{all_pairs_push}
 use Rattle.std.proofs.lemmas.List.Sums.{sum_by-set}
-use Rattle.form_def.specs.Order.{is_among, may_come, are_ordered}
+use Rattle.form_def.specs.Order.{is_among}
 use Rattle.form_order.specs.declared.walk.Mark.{Mark}
 use Rattle.form_order.specs.declared.walk.Mark.TheVariants.{New, OnPath, Placed}
 use Rattle.form_order.specs.declared.walk.Walk.{Walk}
 use Rattle.form_order.specs.Cycles.{Leads}
 use Rattle.form_order.specs.Rows.{row, AreWithin}
-use Rattle.form_order.specs.Walks.{mark_at, is_placed, first_open, entered, placed, with_last, steps_left, unplaced, IsWalk, HasCycle, Keeps, TakesTurn, Finishes, Visits, IsOrder}
-use Rattle.form_order.proofs.ListLemmas.{and-first, and-second, and-both, not-false, not-true, or-none, passes, pairs_front, pairs_last, all_front, all_last, find_contains, find_none, list_all-weaker, is_among-push, or-true, not-not, all_both}
-use Rattle.form_order.proofs.LeadsLemmas.{all_lead, leads_then, leads_within}
+use Rattle.form_order.specs.Walks.{mark_at, is_placed, is_placed_at, entered, placed, with_last, steps_left, unplaced, IsWalk, HasCycle, TakesTurn, IsOrder}
+use Rattle.form_order.proofs.ListLemmas.{and-both, not-true, or-none, pairs_front, pairs_last, all_front, all_last, list_all-at, by_bound, is_among-push, or-true, all_both}
+use Rattle.form_order.proofs.LeadsLemmas.{all_lead, leads_within}
 use Rattle.form_order.proofs.OrderLemmas.{are_ordered-push, no_cycle_among}
 
 set_same : (marks : List Mark) (number : ℕ) (m : Mark) → number < length marks → mark_at (slice_set marks number m) number ≡ m
@@ -30,6 +30,14 @@ by_number P number here others k = by_number_at k (eqb number k) refl
     by_number_at : (j : ℕ) (t : Bool) → eqb number j ≡ t → P j
     by_number_at j true e = subst P (eqb-true number j e) here
     by_number_at j false e = others j (λ h. eqb-false number j e (sym h))
+
+-- a number that is placed stays so
+stays_placed : (marks : List Mark) (number : ℕ) (m : Mark) → number < length marks → (is_placed (mark_at marks number) ≡ true → is_placed m ≡ true)
+    → (k : ℕ) → is_placed (mark_at marks k) ≡ true → is_placed (mark_at (slice_set marks number m) k) ≡ true
+stays_placed marks number m low stays =
+    by_number (λ k. is_placed (mark_at marks k) ≡ true → is_placed (mark_at (slice_set marks number m) k) ≡ true) number
+    (λ on. ap is_placed (set_same marks number m low) ∙ stays on)
+    (λ k other on. ap is_placed (set_other marks number m k other) ∙ on)
 
 New≢OnPath : New ≢ OnPath
 New≢OnPath same = absurd (cc)
@@ -66,6 +74,8 @@ walk-entered needs count number w walk new within leads =
       path_within = All-push (λ k. k < count) w.path number walk.path_within within;
       path_leads = all_pairs_push (λ a b. Leads needs a b) w.path number walk.path_leads (λ k d inside. All-get_or (λ j. Leads needs j number) w.path k d inside leads);
       path_differs = all_pairs_push (λ a b. a ≢ b) w.path number walk.path_differs (λ k d inside. All-get_or (λ j. j ≢ number) w.path k d inside others);
+      passed_long = walk.passed_long;
+      passed_are = λ a k before inside. stays_placed w.marks number OnPath low (λ on. absurd (false≢true (sym (ap is_placed new) ∙ on))) (slice_index_or (needs a) k 0) (walk.passed_are a k before inside);
     }
 
 unplaced_mark : (m : Mark) → is_placed m ≡ false → m ≢ OnPath → m ≡ New
@@ -128,16 +138,23 @@ walk-placed needs count number w walk done =
       path_within = all_front (λ k. k < count) w.path number walk.path_within;
       path_leads = pairs_front (λ a b. Leads needs a b) w.path number walk.path_leads;
       path_differs = pairs_front (λ a b. a ≢ b) w.path number walk.path_differs;
+      passed_long = walk.passed_long;
+      passed_are = λ a k before inside. stays_placed w.marks number Placed low (λ _. refl) (slice_index_or (needs a) k 0) (walk.passed_are a k before inside);
     }
 
+pub open_none : (marks m : List Mark) (numbers n : List ℕ) (from f : ℕ) → m ≡ marks → n ≡ numbers → f ≡ from
+    → ((k : ℕ) → f ≤ k → k < length n → is_placed_at m n k ≡ true) → (k : ℕ) → from ≤ k → k < length numbers → is_placed_at marks numbers k ≡ true
+open_none marks m numbers n from f marks_are numbers_are from_is none = rw (← marks_are, ← numbers_are, ← from_is) none
+
 pub takes_turn-placed : (rows : List (List ℕ)) (number : ℕ) (w : Walk) → IsWalk (row rows) (length rows) (with_last w number)
-    → first_open w.marks (row rows number) ≡ None → TakesTurn (row rows) (length rows) w (placed w number)
-takes_turn-placed rows number w walk none =
+    → ((k : ℕ) → slice_index_or w.passed number 0 ≤ k → k < length (row rows number) → is_placed_at w.marks (row rows number) k ≡ true)
+    → TakesTurn (row rows) (length rows) w (placed w number)
+takes_turn-placed rows number w walk others =
     let here : mark_at w.marks number ≡ OnPath = all_last (λ k. mark_at w.marks k ≡ OnPath) w.path number walk.path_marked in
     let within : number < length rows = all_last (λ k. k < length rows) w.path number walk.path_within in
     let low : number < length w.marks = new_within w.marks (length rows) number walk.marked within in
-    let done = list_all-weaker (λ k. not (not (is_placed (mark_at w.marks k)))) (λ k. is_placed (mark_at w.marks k)) (λ k h. not-not (is_placed (mark_at w.marks k)) h) (row rows number)
-    (find_none (λ k. not (is_placed (mark_at w.marks k))) (row rows number) none) in
+    let done = list_all-at (λ k. is_placed (mark_at w.marks k)) (row rows number)
+    (λ k inside. by_bound k (slice_index_or w.passed number 0) (λ before. walk.passed_are number k before inside) (λ behind. others k behind inside)) in
     record {
       walk = walk-placed (row rows) (length rows) number w walk done;
       keeps = by_number (λ k. mark_at (slice_set w.marks number Placed) k ≡ New → mark_at w.marks k ≡ New) number

@@ -1,5 +1,5 @@
 -- What each field depends on, a row a field.
-use Rattle.std.specs.Prelude.{ℕ, ◌+◌, ◌<◌, List, [], ◌∷◌, length, Contains, slice_get}
+use Rattle.std.specs.Prelude.{ℕ, ◌+◌, ◌<◌, List, [], ◌∷◌, length, Contains}
 use Rattle.std.specs.List.{slice_index_or}
 use Rattle.form_def.specs.declared.field.Field.{Field}
 use Rattle.form_def.specs.Order.{dependencies}

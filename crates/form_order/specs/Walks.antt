@@ -1,5 +1,5 @@
 -- A walk over rows: from each number to those that it needs, until these are placed.
-use Rattle.std.specs.Prelude.{ℕ, ◌≡◌, ◌≢◌, ◌+◌, ◌<◌, Bool, true, false, not, List, [], ◌∷◌, ◌++◌, Option, length, All, AllPairs, Contains, sum_by, find, slice_set, replicate, MatchBool}
+use Rattle.std.specs.Prelude.{ℕ, ◌≡◌, ◌≢◌, ◌+◌, ◌<◌, Bool, true, false, List, [], ◌∷◌, ◌++◌, length, All, AllPairs, Contains, sum_by, slice_set, replicate}
 use Rattle.std.specs.List.{slice_index_or}
 use Rattle.form_def.specs.Order.{is_among, are_ordered}
 use Rattle.form_order.specs.declared.walk.Mark.{Mark}
@@ -15,22 +15,21 @@ is_placed New = false
 is_placed OnPath = false
 is_placed Placed = true
 
--- the first of the numbers that isn't placed
-abbrev pub first_open : List Mark → List ℕ → Option ℕ
-first_open marks numbers = find (λ k. not (is_placed (mark_at marks k))) numbers
+abbrev pub is_placed_at : List Mark → List ℕ → ℕ → Bool
+is_placed_at marks numbers place = is_placed (mark_at marks (slice_index_or numbers place 0))
 
 -- before the first turn
 abbrev pub unwalked : ℕ → Walk
-unwalked count = record { marks = replicate count New; path = []; order = [] }
+unwalked count = record { marks = replicate count New; path = []; order = []; passed = replicate count 0 }
 
 abbrev pub entered : Walk → ℕ → Walk
-entered w number = record { marks = slice_set w.marks number OnPath; path = w.path ++ number ∷ []; order = w.order }
+entered w number = record { marks = slice_set w.marks number OnPath; path = w.path ++ number ∷ []; order = w.order; passed = w.passed }
 
 abbrev pub placed : Walk → ℕ → Walk
-placed w number = record { marks = slice_set w.marks number Placed; path = w.path; order = w.order ++ number ∷ [] }
+placed w number = record { marks = slice_set w.marks number Placed; path = w.path; order = w.order ++ number ∷ []; passed = w.passed }
 
 abbrev pub with_last : Walk → ℕ → Walk
-with_last w number = record { marks = w.marks; path = w.path ++ number ∷ []; order = w.order }
+with_last w number = record { marks = w.marks; path = w.path ++ number ∷ []; order = w.order; passed = w.passed }
 
 -- the steps that are left with a number
 abbrev pub steps_left : Mark → ℕ
@@ -55,6 +54,9 @@ pub record IsWalk (needs : ℕ → List ℕ) (count : ℕ) (w : Walk) : Type 0 w
   pub path_within : All (λ k. k < count) w.path
   pub path_leads : AllPairs (λ a b. Leads needs a b) w.path
   pub path_differs : AllPairs (λ a b. a ≢ b) w.path
+  pub passed_long : length w.passed ≡ count
+  -- of those that a number needs, so many from the front are placed
+  pub passed_are : (a k : ℕ) → k < slice_index_or w.passed a 0 → k < length (needs a) → is_placed_at w.marks (needs a) k ≡ true
 
 abbrev pub HasCycle : (ℕ → List ℕ) → Type 0
 HasCycle needs = (number : ℕ) × Leads needs number number

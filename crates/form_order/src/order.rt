@@ -30,9 +30,9 @@ fn walk_all(alloc: Global, rows: &[Items<u64>]) -> Result<Option<Items<u64>>, No
 /// The numbers of all fields, each once, each behind those that its field depends on: its parent, and
 /// what its relevance and its calculation read. The fields go by number, in document order from 0.
 ///
-/// Takes a step for each field, and looks at what it depends on again for each field that is placed
-/// from there. Only where there is a cycle, all that each field depends on is looked for, one field
-/// after the other, until one depends on itself.
+/// The walk takes a step for each field and each of its dependencies; to find a field's parent looks
+/// through the paths of all fields. Only where there is a cycle, what a field leads to is looked for
+/// from each field, in document order, up to the first that depends on itself.
 pub fn order_of(alloc: Global, fields: &[Field]) -> Result<Items<u64>, OrderFault>
     requires { are_within (length fields.now) 0 fields.now ≡ true }
     ensures order { IfOk result (λ order. is_order fields.now order ≡ true) }

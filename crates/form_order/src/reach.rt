@@ -1,4 +1,4 @@
-ghost use Rattle.std.specs.Prelude.{◌≡◌, ◌<◌, ◌↔◌, ℕ, IsTrue, IfOk, OnOk, length};
+ghost use Rattle.std.specs.Prelude.{◌≡◌, ◌<◌, ◌↔◌, IsTrue, IfOk, OnOk, length};
 ghost use Rattle.form_def.specs.Order.{is_marked};
 ghost use Rattle.form_order.specs.Rows.{row as row_at, AreWithin};
 ghost use Rattle.form_order.specs.Cycles.{Leads, IsFirstCycle};

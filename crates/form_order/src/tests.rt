@@ -201,7 +201,7 @@ fn a_long_chain_has_an_order(rt: HostRuntime) -> Result<(), Fail> {
     let order = order_of(alloc, fields.as_slice())?;
     assert_eq!(rt; order.len(), 500);
     for (place, number) in order.as_slice().iter().enumerate() {
-        assert_eq!(rt; *number + place as u64, 499);
+        assert_eq!(rt; number.checked_add(place as u64), Some(499));
     }
     Ok(())
 }

@@ -1,5 +1,5 @@
-ghost use Rattle.std.specs.Prelude.{◌≡◌};
-ghost use Rattle.form_order.specs.Walks.{mark_at, is_placed, first_open};
+ghost use Rattle.std.specs.Prelude.{◌≡◌, ◌<◌, ◌≤◌, ℕ, true, false, MatchOption, length, slice_index};
+ghost use Rattle.form_order.specs.Walks.{mark_at, is_placed, is_placed_at};
 
 use crate::rows::row;
 use field_text::{Items, NoMemory};
@@ -30,14 +30,24 @@ fn mark_at(marks: &[Mark], number: u64) -> Mark
     marks.get(number as usize).copied().unwrap_or(Mark::New)
 }
 
-/// The first of the numbers whose field isn't placed.
-fn first_open(marks: &[Mark], numbers: &[u64]) -> Option<u64>
-    ensures { result ≡ first_open marks.now numbers.now }
+/// From a place on, where the first of the numbers stands that isn't placed.
+fn first_open(marks: &[Mark], numbers: &[u64], from: usize) -> Option<usize>
+    ensures { MatchOption result
+        ((k : ℕ) → from ≤ k → k < length numbers.now → is_placed_at marks.now numbers.now k ≡ true)
+        (λ place. (place < length numbers.now) × (is_placed_at marks.now numbers.now place ≡ false) × ((k : ℕ) → from ≤ k → k < place → is_placed_at marks.now numbers.now k ≡ true)) }
 {
-    numbers
-        .iter()
-        .copied()
-        .find(|number| !is_placed(mark_at(marks, *number)))
+    for place in from..numbers.len() {
+        if !is_placed(mark_at(marks, numbers[place])) {
+            return Some(place);
+        }
+    }
+    None
+}
+
+fn passed_at(passed: &[usize], number: u64) -> usize
+    ensures { result ≡ slice_index passed.now number }
+{
+    passed.get(number as usize).copied().unwrap_or(0)
 }
 
 /// A walk from fields to those that they depend on, depth first.
@@ -46,12 +56,14 @@ pub struct Walk {
     marks: Items<Mark>,
     path: Items<u64>,
     order: Items<u64>,
+    /// How many of each row's first numbers are known to be placed.
+    passed: Items<usize>,
 }
 
 impl Walk {
-    ghost use Rattle.std.specs.Prelude.{◌<◌, List, [], ℕ, IfOk, OnOk, MatchBool, Contains, false, length};
+    ghost use Rattle.std.specs.Prelude.{[], IfOk, OnOk, MatchBool, Contains};
     ghost use Rattle.form_order.specs.Rows.{row as row_at, AreWithin};
-    ghost use Rattle.form_order.specs.Walks.{unwalked, entered, placed, with_last, IsWalk, HasCycle, TakesTurn, Finishes, Visits, IsOrder};
+    ghost use Rattle.form_order.specs.Walks.{unwalked, entered, placed, with_last, IsWalk, HasCycle, TakesTurn, Finishes, Visits};
 
     pub fn new(alloc: Global, count: usize) -> Result<Walk, NoMemory>
         ensures { IfOk result (λ walk. walk ≡ unwalked count) }
@@ -60,6 +72,7 @@ impl Walk {
             marks: Items::from_vec(vec![in alloc; Mark::New; count]?),
             path: Items::new(alloc),
             order: Items::new(alloc),
+            passed: Items::from_vec(vec![in alloc; 0; count]?),
         })
     }
 
@@ -106,8 +119,13 @@ impl Walk {
         requires walk { IsWalk (row_at rows.now) (length rows.now) (with_last self.old number) }
         ensures { IfOk result (λ on. MatchBool on (TakesTurn (row_at rows.now) (length rows.now) self.old self.new) (HasCycle (row_at rows.now))) }
     {
-        match first_open(self.marks.as_slice(), row(rows, number)) {
-            Some(next) => self.follow(rows, number, next),
+        let numbers = row(rows, number);
+        let from = passed_at(self.passed.as_slice(), number);
+        match first_open(self.marks.as_slice(), numbers, from) {
+            Some(place) => {
+                self.passed.set(number as usize, place);
+                self.follow(rows, number, numbers[place])
+            }
             None => {
                 self.place(number)?;
                 Ok(true)

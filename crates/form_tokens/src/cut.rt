@@ -1,7 +1,7 @@
-ghost use Rattle.std.specs.Prelude.{◌≡◌, ◌<◌, ◌≤◌, ◌^◌, ℕ, pos, IfOk, length};
+ghost use Rattle.std.specs.Prelude.{◌≡◌, ◌<◌, ◌≤◌, ◌^◌, IfOk, length};
 ghost use Rattle.rosa_pieces.specs.Reading.{Gives};
-ghost use Rattle.form_tokens.specs.Tokens.{is_digit, digits_at, digits_token, quoted_at, absolute_at, dotted_at, name_at, sign_or, not_equal_at, sign_at, token_at};
-ghost use Rattle.std.specs.Prelude.{Some};
+ghost use Rattle.form_tokens.specs.Tokens.{digits_at, digits_token, quoted_at, absolute_at, dotted_at, name_at, sign_or, not_equal_at, sign_at, token_at};
+ghost use Rattle.form_tokens.specs.Spelling.{StandsBefore, LeavesLeast, HasNoToken};
 
 use crate::Token;
 use crate::front::{
@@ -137,9 +137,8 @@ fn sign_at(c: char, chars: &[char]) -> Result<(Token, &[char]), Unread>
     }
 }
 
-/// The token at the front, and what follows it.
 #[tactic(auto, unfolding(crate::specs::Tokens::token_at))]
-pub fn token_at(alloc: Global, chars: &[char]) -> Result<(Token, &[char]), Unread>
+fn front_token(alloc: Global, chars: &[char]) -> Result<(Token, &[char]), Unread>
     ensures { Gives (λ x. (x.0, x.1.now)) result (token_at chars.now) }
 {
     let [c, rest @ ..] = chars else {
@@ -153,4 +152,14 @@ pub fn token_at(alloc: Global, chars: &[char]) -> Result<(Token, &[char]), Unrea
         _ if begins_as_name(chars) => name_at(alloc, chars),
         _ => sign_at(*c, rest),
     }
+}
+
+/// The token at the front, and what follows it: of all tokens that stand there, the longest.
+pub fn token_at(alloc: Global, chars: &[char]) -> Result<(Token, &[char]), Unread>
+    ensures gives { Gives (λ x. (x.0, x.1.now)) result (token_at chars.now) }
+    ensures found { IfOk result (λ x. StandsBefore x.0 chars.now x.1.now) }
+    ensures longest { IfOk result (λ x. LeavesLeast chars.now x.1.now) }
+    ensures none { result ≡ Err Unread.Absent → HasNoToken chars.now }
+{
+    front_token(alloc, chars)
 }

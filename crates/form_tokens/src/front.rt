@@ -1,6 +1,7 @@
 ghost use Rattle.std.specs.Prelude.{◌≡◌, ◌≤◌, length, IfOk, encode_utf8_all};
 ghost use Rattle.field_text.specs.Xml.{is_xml_space as space, is_name_char as name_char, begins_as_name as begins};
-ghost use Rattle.rosa_pieces.specs.Reading.{Gives, front, past, past_one};
+ghost use Rattle.rosa_pieces.specs.Reading.{Gives, past, past_one};
+ghost use Rattle.form_tokens.specs.Classes.{belongs};
 ghost use Rattle.form_tokens.specs.Tokens.{is_inside, text_before, past_names, past_attribute, past_steps};
 
 use field_text::xml::{is_name_char, is_name_start, is_xml_space};
@@ -37,19 +38,46 @@ pub fn begins_as_name(chars: &[char]) -> bool
     }
 }
 
-/// What follows the white space at the front.
-pub fn past_spaces(chars: &[char]) -> &[char]
-    ensures value { result.now ≡ past space chars.now }
+/// Which characters are passed.
+#[derive(Clone, Copy, Debug)]
+enum Class {
+    Space,
+    NameChar,
+    /// All but the quote.
+    Inside { quote: char },
+}
+
+fn belongs(class: Class, c: char) -> bool
+    ensures { result ≡ belongs class c }
+{
+    match class {
+        Class::Space => is_xml_space(c),
+        Class::NameChar => is_name_char(c),
+        Class::Inside { quote } => c != quote,
+    }
+}
+
+/// What follows the characters of a class at the front.
+fn past(class: Class, chars: &[char]) -> &[char]
+    ensures value { result.now ≡ past (belongs class) chars.now }
     ensures shorter { length result.now ≤ length chars.now }
 {
     let mut rest = chars;
     while let [c, after @ ..] = rest {
-        if !is_xml_space(*c) {
+        if !belongs(class, *c) {
             break;
         }
         rest = after;
     }
     rest
+}
+
+/// What follows the white space at the front.
+pub fn past_spaces(chars: &[char]) -> &[char]
+    ensures value { result.now ≡ past space chars.now }
+    ensures shorter { length result.now ≤ length chars.now }
+{
+    past(Class::Space, chars)
 }
 
 /// What follows the characters of a name at the front.
@@ -57,14 +85,7 @@ pub fn past_name(chars: &[char]) -> &[char]
     ensures value { result.now ≡ past name_char chars.now }
     ensures shorter { length result.now ≤ length chars.now }
 {
-    let mut rest = chars;
-    while let [c, after @ ..] = rest {
-        if !is_name_char(*c) {
-            break;
-        }
-        rest = after;
-    }
-    rest
+    past(Class::NameChar, chars)
 }
 
 /// What follows the characters before the next quote.
@@ -72,14 +93,7 @@ pub fn past_inside(quote: char, chars: &[char]) -> &[char]
     ensures value { result.now ≡ past (is_inside quote) chars.now }
     ensures shorter { length result.now ≤ length chars.now }
 {
-    let mut rest = chars;
-    while let [c, after @ ..] = rest {
-        if *c == quote {
-            break;
-        }
-        rest = after;
-    }
-    rest
+    past(Class::Inside { quote }, chars)
 }
 
 /// What follows a name and the names behind it, with a slash before each.

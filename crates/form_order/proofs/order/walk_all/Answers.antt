@@ -1,4 +1,4 @@
-use Rattle.std.proofs.Common.{◌≡◌, ◌≢◌, ◌<◌, ℕ, length, sym, subst, List, arith}
+use Rattle.std.proofs.Common.{◌≢◌, ◌<◌, ℕ, length, sym, subst, List, arith}
 use Rattle.form_order.specs.declared.walk.Mark.TheVariants.{New}
 use Rattle.form_order.specs.Rows.{row}
 use Rattle.form_order.specs.Walks.{mark_at, IsOrder}

@@ -1,4 +1,4 @@
-use Rattle.std.proofs.Common.{◌≡◌, ◌≢◌, ◌<◌, length, sym, ap, ◌∙◌, subst, false, arith, rules}
+use Rattle.std.proofs.Common.{◌≡◌, ◌≢◌, ◌<◌, length, sym, ap, ◌∙◌, subst, arith, rules}
 use denote.Enum.Bare.{same_true, same_false}
 use Rattle.form_order.specs.contracts.walk.Mark.{the_type}
 use Rattle.form_order.specs.declared.walk.Mark.TheVariants.{OnPath}
@@ -27,4 +27,4 @@ returns c =
     let takes = takes_turn-entered c.args.rows.now c.args.number c.args.next c.args.self.now c.requires.within c.requires.walk c.requires.needed c.requires.unplaced (λ same. other (mark ∙ same)) in
     let path = c.in_ok-push.ensures.ok in
     subst (λ (w : Walk). TakesTurn (row c.args.rows.now) (length c.args.rows.now) c.args.self.now w)
-    (sym (c.in_ok-enter.ensures ∙ ap (λ p. entered (record { marks = c.args.self.now.marks; path = p; order = c.args.self.now.order }) c.args.next) path)) takes
+    (sym (c.in_ok-enter.ensures ∙ ap (λ p. entered (record { marks = c.args.self.now.marks; path = p; order = c.args.self.now.order; passed = c.args.self.now.passed }) c.args.next) path)) takes
