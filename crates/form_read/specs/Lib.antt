@@ -8,3 +8,4 @@ pub mod Binds
 pub mod Tables
 pub mod Controls
 pub mod Drafts
+pub mod Forms

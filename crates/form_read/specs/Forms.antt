@@ -1,0 +1,145 @@
+-- The form that a document describes (ODK XForms in a profile), or what it is refused for first.
+use Rattle.std.specs.Prelude.{◌≡◌, ℕ, Bool, true, false, if◌then◌else◌, List, [], ◌∷◌, codes, length, Option, Some, None, Ok, Err, option_map, slice_get}
+use Rattle.std.specs.Str.{bytes_eq}
+use Rattle.form_def.specs.declared.expr.Expr.{Expr}
+use Rattle.form_def.specs.declared.field.Kind.{Kind}
+use Rattle.form_def.specs.declared.field.Kind.TheVariants as kind
+use Rattle.form_def.specs.declared.field.Choices.{Choices}
+use Rattle.form_def.specs.declared.field.Choices.TheVariants as choices
+use Rattle.form_def.specs.declared.field.Field.{Field}
+use Rattle.form_def.specs.declared.field.EntityDef.{EntityDef}
+use Rattle.form_def.specs.declared.parts.FormParts.{FormParts}
+use Rattle.form_def.specs.declared.form.FormDef.{FormDef}
+use Rattle.form_def.specs.Order.{dependencies_at}
+use Rattle.form_def.specs.FormDefs.{parts_of_form}
+use Rattle.form_order.specs.Cycles.{IsFirstCycle}
+use Rattle.form_outline.specs.declared.outline.PrimaryField.{PrimaryField}
+use Rattle.form_outline.specs.declared.outline.PrimaryPart.{PrimaryPart}
+use Rattle.form_outline.specs.declared.outline.PrimaryPart.TheVariants as primary
+use Rattle.form_outline.specs.declared.outline.ModelPart.{ModelPart}
+use Rattle.form_outline.specs.declared.outline.ModelPart.TheVariants as part
+use Rattle.form_outline.specs.declared.outline.Outline.{Outline}
+use Rattle.form_outline.specs.declared.reading.OutlineFault.TheVariants as outline
+use Rattle.form_outline.specs.Outlines.{Outlines, Refuses as RefusesOutline}
+use Rattle.form_read.specs.declared.refusal.FormRefused.{FormRefused}
+use Rattle.form_read.specs.declared.refusal.FormRefused.TheVariants.{Doc, NoPrimary, NoId, BadExpr, UnknownPath, UnknownControl, UnknownType, Cycle, UnknownList, TooManyFields, BadEntity, NoMemory}
+use Rattle.form_read.specs.declared.draft.Bound.{Bound}
+use Rattle.form_read.specs.declared.draft.Asked.{Asked}
+use Rattle.form_read.specs.declared.draft.Draft.{Draft}
+use Rattle.form_read.specs.Slots.{slots_of}
+use Rattle.form_read.specs.Drafts.{draft_of}
+
+-- a field without a bind
+abbrev pub unbound : Bound
+unbound = record { relevant = None; constraint = None; required = None; readonly = None; calculate = None; saveto = None }
+
+abbrev pub bound_in : Option Bound → Bound
+bound_in None = unbound
+bound_in (Some bound) = bound
+
+-- a leaf without a control is plain, whatever its type
+abbrev pub asked_in : Bool → Option Asked → Asked
+asked_in is_group None = record { kind = if is_group then kind.Group else kind.Plain; choices = choices.Nothing }
+asked_in is_group (Some asked) = asked
+
+abbrev pub joined : PrimaryField → Bound → Asked → Field
+joined s b a = record {
+  path = s.path;
+  kind = a.kind;
+  initial = s.initial;
+  relevant = b.relevant;
+  constraint = b.constraint;
+  required = b.required;
+  readonly = b.readonly;
+  calculate = b.calculate;
+  saveto = b.saveto;
+  choices = a.choices;
+}
+
+abbrev pub field_of : PrimaryField → Option Bound → Option Asked → Field
+field_of s b a = joined s (bound_in b) (asked_in s.is_group a)
+
+-- the fields of these slots, each with what its bind and its control say
+abbrev pub fields_of : List PrimaryField → List (Option Bound) → List (Option Asked) → List Field
+fields_of [] bounds asked = []
+fields_of (s ∷ ss) [] asked = []
+fields_of (s ∷ ss) (b ∷ bs) [] = []
+fields_of (s ∷ ss) (b ∷ bs) (a ∷ rest) = field_of s b a ∷ fields_of ss bs rest
+
+-- the first submission counts; another value than these is as none
+abbrev pub auto_send_by : Option (List ℕ) → Option Bool
+auto_send_by None = None
+auto_send_by (Some value) = if bytes_eq value (codes "true") then Some true else if bytes_eq value (codes "false") then Some false else None
+
+abbrev pub auto_send_in : List ModelPart → Option Bool
+auto_send_in [] = None
+auto_send_in (part.Primary ∷ ps) = auto_send_in ps
+auto_send_in (part.Bind bind ∷ ps) = auto_send_in ps
+auto_send_in (part.Table table ∷ ps) = auto_send_in ps
+auto_send_in (part.Submission value ∷ ps) = auto_send_by value
+auto_send_in (part.SetValue setvalue ∷ ps) = auto_send_in ps
+auto_send_in (part.Other name ∷ ps) = auto_send_in ps
+
+-- the dataset of the first entity
+abbrev pub dataset_in : List PrimaryPart → Option (List ℕ)
+dataset_in [] = None
+dataset_in (primary.Field f ∷ ps) = dataset_in ps
+dataset_in (primary.Meta f ∷ ps) = dataset_in ps
+dataset_in (primary.Entity e ∷ ps) = e.dataset
+
+abbrev pub entity_def : Bool → List ℕ → EntityDef
+entity_def draws_id dataset = record { dataset = dataset; draws_id = draws_id }
+
+abbrev pub fields_in : Outline → Draft → List Field
+fields_in o d = fields_of (slots_of o.primary) d.bounds d.asked
+
+abbrev pub parts_of : Outline → Draft → List ℕ → FormParts
+parts_of o d order = record {
+  id = o.id;
+  version = o.version;
+  root = o.root;
+  fields = fields_in o d;
+  inner = d.inner;
+  outer = d.outer;
+  entity = option_map (entity_def d.draws_id) (dataset_in o.primary);
+  auto_send = auto_send_in o.model;
+  order = order;
+}
+
+-- the bytes are a document that describes this form
+pub record Describes (bytes : List ℕ) (form : FormDef) : Type 0 where
+  pub outline : Outline
+  pub outlined : Outlines bytes outline
+  pub draft : Draft
+  pub drafted : draft_of outline ≡ Ok draft
+  pub parts : parts_of_form form ≡ parts_of outline draft form.order
+
+-- the bytes are a document with a model and a primary instance, whose parts are refused for this
+pub record IsRefused (bytes : List ℕ) (refusal : FormRefused) : Type 0 where
+  pub outline : Outline
+  pub outlined : Outlines bytes outline
+  pub refused : draft_of outline ≡ Err refusal
+
+-- the parts describe fields, of which the first that depends on itself has this path
+pub record HasCycle (bytes path : List ℕ) : Type 0 where
+  pub outline : Outline
+  pub outlined : Outlines bytes outline
+  pub draft : Draft
+  pub drafted : draft_of outline ≡ Ok draft
+  pub number : ℕ
+  pub first : IsFirstCycle (dependencies_at (fields_in outline draft)) (length (fields_in outline draft)) number
+  pub path_is : option_map (λ f. f.path) (slice_get (fields_in outline draft) number) ≡ Some path
+
+abbrev pub Refuses : List ℕ → FormRefused → Type 0
+Refuses bytes (Doc refusal) = RefusesOutline bytes (outline.Doc refusal)
+Refuses bytes NoPrimary = RefusesOutline bytes outline.NoPrimary
+Refuses bytes NoId = IsRefused bytes NoId
+Refuses bytes (BadExpr path at) = IsRefused bytes (BadExpr path at)
+Refuses bytes (UnknownPath path) = IsRefused bytes (UnknownPath path)
+Refuses bytes (UnknownControl name) = IsRefused bytes (UnknownControl name)
+Refuses bytes (UnknownType path) = IsRefused bytes (UnknownType path)
+Refuses bytes (Cycle path) = HasCycle bytes path
+Refuses bytes (UnknownList name) = IsRefused bytes (UnknownList name)
+Refuses bytes (TooManyFields count) = IsRefused bytes (TooManyFields count)
+Refuses bytes (BadEntity path) = IsRefused bytes (BadEntity path)
+Refuses bytes NoMemory = Unit {0}
