@@ -1,5 +1,5 @@
 -- The form that a document describes (ODK XForms in a profile), or what it is refused for first.
-use Rattle.std.specs.Prelude.{◌≡◌, ℕ, Bool, true, false, if◌then◌else◌, List, [], ◌∷◌, codes, length, Option, Some, None, Ok, Err, option_map, slice_get}
+use Rattle.std.specs.Prelude.{◌≡◌, ℕ, Bool, true, false, if◌then◌else◌, List, [], ◌∷◌, codes, length, Option, Some, None, Result, Ok, Err, option_map, slice_get}
 use Rattle.std.specs.Str.{bytes_eq}
 use Rattle.form_def.specs.declared.expr.Expr.{Expr}
 use Rattle.form_def.specs.declared.field.Kind.{Kind}
@@ -10,7 +10,9 @@ use Rattle.form_def.specs.declared.field.Field.{Field}
 use Rattle.form_def.specs.declared.field.EntityDef.{EntityDef}
 use Rattle.form_def.specs.declared.parts.FormParts.{FormParts}
 use Rattle.form_def.specs.declared.form.FormDef.{FormDef}
-use Rattle.form_def.specs.Order.{dependencies_at}
+use Rattle.form_def.specs.Paths.{is_name}
+use Rattle.form_def.specs.Fields.{have_paths, PathsDiffer, are_within}
+use Rattle.form_def.specs.Order.{dependencies_at, is_order}
 use Rattle.form_def.specs.FormDefs.{parts_of_form}
 use Rattle.form_order.specs.Cycles.{IsFirstCycle}
 use Rattle.form_outline.specs.declared.outline.PrimaryField.{PrimaryField}
@@ -19,15 +21,18 @@ use Rattle.form_outline.specs.declared.outline.PrimaryPart.TheVariants as primar
 use Rattle.form_outline.specs.declared.outline.ModelPart.{ModelPart}
 use Rattle.form_outline.specs.declared.outline.ModelPart.TheVariants as part
 use Rattle.form_outline.specs.declared.outline.Outline.{Outline}
-use Rattle.form_outline.specs.declared.reading.OutlineFault.TheVariants as outline
+use Rattle.form_outline.specs.declared.reading.OutlineFault.{OutlineFault}
+use Rattle.form_outline.specs.declared.reading.OutlineFault.TheVariants as fault
 use Rattle.form_outline.specs.Outlines.{Outlines, Refuses as RefusesOutline}
 use Rattle.form_read.specs.declared.refusal.FormRefused.{FormRefused}
-use Rattle.form_read.specs.declared.refusal.FormRefused.TheVariants.{Doc, NoPrimary, NoId, BadExpr, UnknownPath, UnknownControl, UnknownType, Cycle, UnknownList, TooManyFields, BadEntity, NoMemory}
+use Rattle.form_read.specs.declared.refusal.FormRefused.TheVariants.{Doc, NoPrimary, Cycle, NoMemory}
 use Rattle.form_read.specs.declared.draft.Bound.{Bound}
 use Rattle.form_read.specs.declared.draft.Asked.{Asked}
 use Rattle.form_read.specs.declared.draft.Draft.{Draft}
+use Rattle.form_read.specs.declared.draft.Drafted.{Drafted}
+use Rattle.form_read.specs.Refusals.{◌>>=◌}
 use Rattle.form_read.specs.Slots.{slots_of}
-use Rattle.form_read.specs.Drafts.{draft_of}
+use Rattle.form_read.specs.Drafts.{scope_of, draft_of}
 
 -- a field without a bind
 abbrev pub unbound : Bound
@@ -106,40 +111,73 @@ parts_of o d order = record {
   order = order;
 }
 
--- the bytes are a document that describes this form
-pub record Describes (bytes : List ℕ) (form : FormDef) : Type 0 where
-  pub outline : Outline
-  pub outlined : Outlines bytes outline
+-- what an outline is made into
+abbrev pub drafted_by : Outline → Draft → Drafted
+drafted_by o d = record { id = o.id; version = o.version; primary = o.primary; scope = scope_of o; draft = d }
+
+unfoldable pub drafted : Outline → Result Drafted FormRefused
+drafted o = do
+  d ← draft_of o
+  Ok (drafted_by o d)
+
+abbrev pub fields_drafted : Drafted → List Field
+fields_drafted x = fields_of x.scope.slots x.draft.bounds x.draft.asked
+
+abbrev pub parts_drafted : Drafted → List ℕ → FormParts
+parts_drafted x order = record {
+  id = x.id;
+  version = x.version;
+  root = x.scope.root;
+  fields = fields_drafted x;
+  inner = x.draft.inner;
+  outer = x.draft.outer;
+  entity = option_map (entity_def x.draft.draws_id) (dataset_in x.primary);
+  auto_send = auto_send_in x.scope.model;
+  order = order;
+}
+
+-- parts of which a form can be made
+pub record IsSound (parts : FormParts) : Type 0 where
+  pub root_named : is_name parts.root ≡ true
+  pub paths_named : have_paths parts.root parts.fields ≡ true
+  pub paths_differ : PathsDiffer parts.fields
+  pub numbers_within : are_within (length parts.fields) 0 parts.fields ≡ true
+  pub ordered : is_order parts.fields parts.order ≡ true
+
+-- the first field that depends on itself has this path
+pub record IsCycle (fields : List Field) (path : List ℕ) : Type 0 where
+  pub number : ℕ
+  pub first : IsFirstCycle (dependencies_at fields) (length fields) number
+  pub path_is : option_map (λ f. f.path) (slice_get fields number) ≡ Some path
+
+-- why fields have no order
+pub data HasNoOrder (fields : List Field) : FormRefused → Type 0 where
+  cycle : (path : List ℕ) → IsCycle fields path → HasNoOrder fields (Cycle path)
+  no_memory : HasNoOrder fields NoMemory
+
+-- the parts of an outline are those of this form
+pub record IsFormOf (outline : Outline) (form : FormDef) : Type 0 where
   pub draft : Draft
   pub drafted : draft_of outline ≡ Ok draft
   pub parts : parts_of_form form ≡ parts_of outline draft form.order
 
--- the bytes are a document with a model and a primary instance, whose parts are refused for this
-pub record IsRefused (bytes : List ℕ) (refusal : FormRefused) : Type 0 where
-  pub outline : Outline
-  pub outlined : Outlines bytes outline
-  pub refused : draft_of outline ≡ Err refusal
+-- Why the parts of an outline are no form: the first of them in document order that is refused, or the first of its fields that
+-- depends on itself.
+pub data RefusesParts (outline : Outline) : FormRefused → Type 0 where
+  part : (refusal : FormRefused) → draft_of outline ≡ Err refusal → RefusesParts outline refusal
+  cycle : (draft : Draft) (path : List ℕ) → draft_of outline ≡ Ok draft → IsCycle (fields_in outline draft) path → RefusesParts outline (Cycle path)
+  no_memory : RefusesParts outline NoMemory
 
--- the parts describe fields, of which the first that depends on itself has this path
-pub record HasCycle (bytes path : List ℕ) : Type 0 where
-  pub outline : Outline
-  pub outlined : Outlines bytes outline
-  pub draft : Draft
-  pub drafted : draft_of outline ≡ Ok draft
-  pub number : ℕ
-  pub first : IsFirstCycle (dependencies_at (fields_in outline draft)) (length (fields_in outline draft)) number
-  pub path_is : option_map (λ f. f.path) (slice_get (fields_in outline draft) number) ≡ Some path
+-- the bytes are a document that describes this form
+abbrev pub Describes : List ℕ → FormDef → Type 0
+Describes bytes form = (o : Outline) × Outlines bytes o × IsFormOf o form
 
-abbrev pub Refuses : List ℕ → FormRefused → Type 0
-Refuses bytes (Doc refusal) = RefusesOutline bytes (outline.Doc refusal)
-Refuses bytes NoPrimary = RefusesOutline bytes outline.NoPrimary
-Refuses bytes NoId = IsRefused bytes NoId
-Refuses bytes (BadExpr path at) = IsRefused bytes (BadExpr path at)
-Refuses bytes (UnknownPath path) = IsRefused bytes (UnknownPath path)
-Refuses bytes (UnknownControl name) = IsRefused bytes (UnknownControl name)
-Refuses bytes (UnknownType path) = IsRefused bytes (UnknownType path)
-Refuses bytes (Cycle path) = HasCycle bytes path
-Refuses bytes (UnknownList name) = IsRefused bytes (UnknownList name)
-Refuses bytes (TooManyFields count) = IsRefused bytes (TooManyFields count)
-Refuses bytes (BadEntity path) = IsRefused bytes (BadEntity path)
-Refuses bytes NoMemory = Unit {0}
+abbrev pub refusal_of : OutlineFault → FormRefused
+refusal_of (fault.Doc refusal) = Doc refusal
+refusal_of fault.NoPrimary = NoPrimary
+refusal_of fault.NoMemory = NoMemory
+
+-- Why bytes describe no form: they are no document with a model and a primary instance, or what that says is refused.
+pub data Refuses (bytes : List ℕ) : FormRefused → Type 0 where
+  no_outline : (why : OutlineFault) → RefusesOutline bytes why → Refuses bytes (refusal_of why)
+  parts : (o : Outline) (refusal : FormRefused) → Outlines bytes o → RefusesParts o refusal → Refuses bytes refusal

@@ -1,5 +1,7 @@
+use crate::Scope;
 use field_text::{Items, Text};
 use form_def::{Choices, Expr, InnerTable, Kind, OuterTable};
+use form_outline::PrimaryPart;
 
 /// What the bind of a field says.
 #[derive(Debug, Drop)]
@@ -37,4 +39,14 @@ pub struct Draft {
     pub inner: Items<InnerTable>,
     pub outer: Items<OuterTable>,
     pub draws_id: bool,
+}
+
+/// A form whose parts were read, in all that its document says.
+#[derive(Debug, Drop)]
+pub struct Drafted {
+    pub id: Text,
+    pub version: Text,
+    pub primary: Items<PrimaryPart>,
+    pub scope: Scope,
+    pub draft: Draft,
 }

@@ -6,6 +6,8 @@ mod controls;
 mod draft;
 mod drafts;
 mod expressions;
+mod fields;
+mod form;
 mod paths;
 mod primary;
 mod refusal;
@@ -13,5 +15,6 @@ mod scope;
 mod slots;
 mod tables;
 
+pub use form::read_form;
 pub use refusal::FormRefused;
-pub use scope::Scope;
+use scope::Scope;

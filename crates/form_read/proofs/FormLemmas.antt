@@ -1,0 +1,79 @@
+-- From the parts of an outline to its form.
+use Rattle.std.specs.Prelude.{◌≡◌, ℕ, Bool, true, false, nat_lt, if◌then◌else◌, List, length, Result, Ok, Err, refl}
+use Rattle.std.proofs.Common.{ap, sym, ◌∙◌}
+use Rattle.form_def.specs.declared.form.FormDef.{FormDef}
+use Rattle.form_def.specs.declared.parts.FormParts.{FormParts}
+use Rattle.form_def.specs.FormDefs.{parts_of_form}
+use Rattle.form_outline.specs.declared.outline.PrimaryField.{PrimaryField}
+use Rattle.form_outline.specs.declared.outline.Outline.{Outline}
+use Rattle.form_read.specs.declared.refusal.FormRefused.{FormRefused}
+use Rattle.form_read.specs.declared.refusal.FormRefused.TheVariants.{Doc, NoPrimary, NoId, BadExpr, UnknownPath, UnknownControl, UnknownType, Cycle, UnknownList, TooManyFields, BadEntity, NoMemory}
+use Rattle.form_read.specs.declared.scope.Scope.{Scope}
+use Rattle.form_read.specs.declared.draft.Draft.{Draft}
+use Rattle.form_read.specs.declared.draft.Drafted.{Drafted}
+use Rattle.form_read.specs.Lists.{is_empty}
+use Rattle.form_read.specs.Refusals.{Tells, ◌>>=◌}
+use Rattle.form_read.specs.Slots.{slots_of}
+use Rattle.form_read.specs.Drafts.{empty_draft, all_taken, most_fields, scope_of, draft_of}
+use Rattle.form_read.specs.Forms.{drafted_by, drafted, fields_drafted, parts_drafted, parts_of, fields_in, IsFormOf, HasNoOrder, RefusesParts}
+use Rattle.form_read.specs.Forms as forms
+use Rattle.form_read.proofs.TellingLemmas.{tells_alike}
+
+drafted_if : (o : Outline) (slots : List PrimaryField) (r : FormRefused) → slots ≡ slots_of o.primary → is_empty o.id ≡ false → nat_lt most_fields (length slots) ≡ false
+    → all_taken o.body_first (record { root = o.root; slots = slots; model = o.model }) o.primary o.controls (empty_draft slots) ≡ Err r → drafted o ≡ Err r
+unfolding drafted, draft_of
+drafted_if o slots r is named few refused = rw named (rw is at few (rw is at refused ?))
+
+-- a part is refused
+pub drafted_refused : (o : Outline) (slots : List PrimaryField) (start : Draft) (q : FormRefused) → slots ≡ slots_of o.primary → start ≡ empty_draft slots → is_empty o.id ≡ false
+    → nat_lt most_fields (length slots) ≡ false → Tells q (all_taken o.body_first (record { root = o.root; slots = slots; model = o.model }) o.primary o.controls start) → Tells q (drafted o)
+drafted_refused o slots start q is start_is named few t =
+    tells_alike q (all_taken o.body_first (record { root = o.root; slots = slots; model = o.model }) o.primary o.controls start) (drafted o)
+    (λ r refused. drafted_if o slots r is named few (rw start_is at refused)) t
+
+of_then : (o : Outline) (r : Result Draft FormRefused) (x : Drafted) → (r >>= λ d. Ok (drafted_by o d)) ≡ Ok x → (d : Draft) × (r ≡ Ok d) × (x ≡ drafted_by o d)
+of_then o (Ok d) x is = (d, refl, cc)
+of_then o (Err q) x is = absurd cc
+
+pub drafted_is : (o : Outline) (x : Drafted) → drafted o ≡ Ok x → (d : Draft) × (draft_of o ≡ Ok d) × (x ≡ drafted_by o d)
+unfolding drafted
+drafted_is o x is = of_then o (draft_of o) x is
+
+err_then : (o : Outline) (r : Result Draft FormRefused) (q : FormRefused) → (r >>= λ d. Ok (drafted_by o d)) ≡ Err q → r ≡ Err q
+err_then o (Ok d) q is = absurd cc
+err_then o (Err p) q is = cc
+
+drafted_err : (o : Outline) (q : FormRefused) → drafted o ≡ Err q → draft_of o ≡ Err q
+unfolding drafted
+drafted_err o q is = err_then o (draft_of o) q is
+
+pub refuses_part : (o : Outline) (q : FormRefused) → Tells q (drafted o) → RefusesParts o q
+refuses_part o (Doc refusal) t = forms.part _ (drafted_err o _ t)
+refuses_part o NoPrimary t = forms.part _ (drafted_err o _ t)
+refuses_part o NoId t = forms.part _ (drafted_err o _ t)
+refuses_part o (BadExpr path at) t = forms.part _ (drafted_err o _ t)
+refuses_part o (UnknownPath path) t = forms.part _ (drafted_err o _ t)
+refuses_part o (UnknownControl name) t = forms.part _ (drafted_err o _ t)
+refuses_part o (UnknownType path) t = forms.part _ (drafted_err o _ t)
+refuses_part o (Cycle path) t = forms.part _ (drafted_err o _ t)
+refuses_part o (UnknownList name) t = forms.part _ (drafted_err o _ t)
+refuses_part o (TooManyFields count) t = forms.part _ (drafted_err o _ t)
+refuses_part o (BadEntity path) t = forms.part _ (drafted_err o _ t)
+refuses_part o NoMemory t = forms.no_memory
+
+no_order : (o : Outline) (d : Draft) (q : FormRefused) → draft_of o ≡ Ok d → HasNoOrder (fields_in o d) q → RefusesParts o q
+no_order o d q is (forms.cycle path why) = forms.cycle d path is why
+no_order o d q is forms.no_memory = forms.no_memory
+
+-- the fields have no order
+pub refuses_order : (o : Outline) (x : Drafted) (q : FormRefused) → drafted o ≡ Ok x → HasNoOrder (fields_drafted x) q → RefusesParts o q
+refuses_order o x q is why = let h = drafted_is o x is in no_order o h.0 q h.1 (rw h.2 at why)
+
+pub form_is : (o : Outline) (x : Drafted) (parts : FormParts) (form : FormDef) → drafted o ≡ Ok x → parts ≡ parts_drafted x parts.order → parts_of_form form ≡ parts → IsFormOf o form
+form_is o x parts form is parts_is form_parts =
+    let h = drafted_is o x is in
+    record {
+      draft = h.0;
+      drafted = h.1;
+      parts = ?;
+    }
