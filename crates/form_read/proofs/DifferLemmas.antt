@@ -1,14 +1,17 @@
--- The fields of a form that its primary instance gives: their paths begin with the root's name, and they differ.
-use Rattle.std.specs.Prelude.{ℕ, ◌≡◌, ◌≢◌, Bool, true, false, ◌&&◌, ◌||◌, if◌then◌else◌, List, [], ◌∷◌, ◌++◌, All, AllPairs, length, Option, Some, None, Result, Ok, Err, refl}
-use Rattle.std.specs.List.{list_all, list_any, flat_map}
+-- The fields that a primary instance gives: their paths begin with the name of its root, and they differ once its parts were taken.
+use Rattle.std.specs.Prelude.{ℕ, ◌≡◌, ◌≢◌, Bool, true, false, ◌||◌, if◌then◌else◌, List, [], ◌∷◌, ◌++◌, codes, find, All, AllPairs, Contains, Option, Some, None, Result, Ok, Err, refl}
+use Rattle.std.specs.List.{list_all, flat_map, cons_option}
+use Rattle.std.specs.Option.{option_map_or}
 use Rattle.std.specs.Str.{bytes_eq}
-use Rattle.std.proofs.Common.{suc, ◌<◌, ap, sym, ◌∙◌, subst, arith}
+use Rattle.std.proofs.Common.{zero, suc, ap, sym, ◌∙◌, subst, arith}
 use Rattle.std.proofs.lemmas.Bool.{and_parts, and_from, or_parts, false≢true}
 use Rattle.std.proofs.Math.Bool.{or-false}
 use Rattle.std.proofs.lemmas.List.Folds.{list_any-append}
-use Rattle.std.proofs.lemmas.List.Elements.{All-nil, All-cons, All-head, All-tail, All-weaker}
+use Rattle.std.proofs.lemmas.List.Elements.{All-nil, All-cons, All-head, All-tail, All-weaker, Contains-append_right}
 use Rattle.std.proofs.lemmas.List.Kept.{AllPairs-cons}
 use Rattle.std.proofs.lemmas.Slice.Eq.{bytes_eq-Decides}
+use Rattle.rosa_doc.specs.declared.tree.Element.{Element}
+use Rattle.rosa_doc.specs.declared.tree.Node.{Node}
 use Rattle.rosa_doc.proofs.LocalNames.{both_hold}
 use Rattle.form_def.specs.Paths.{is_path}
 use Rattle.form_def.specs.Fields.{have_paths, PathsDiffer}
@@ -17,7 +20,14 @@ use Rattle.form_outline.specs.declared.outline.EntityPart.{EntityPart}
 use Rattle.form_outline.specs.declared.outline.PrimaryPart.{PrimaryPart}
 use Rattle.form_outline.specs.declared.outline.PrimaryPart.TheVariants.{Field, Meta, Entity}
 use Rattle.form_outline.specs.declared.outline.Outline.{Outline}
+use Rattle.form_outline.specs.declared.outline.ModelPart.{ModelPart}
+use Rattle.form_outline.specs.declared.outline.ModelPart.TheVariants as part
+use Rattle.form_outline.specs.declared.outline.Control.{Control}
 use Rattle.form_outline.specs.Names.{field_has_path, has_paths, IsNamed}
+use Rattle.form_outline.specs.Nodes.{element_in, elements, child_named}
+use Rattle.form_outline.specs.Models.{is_instance, first_or_part, has_instance, parts_behind, model_of}
+use Rattle.form_outline.specs.Outlines.{first_element, outline_of, Outlines}
+use Rattle.form_outline.specs.Outlines as outlines
 use Rattle.form_read.specs.declared.draft.Bound.{Bound}
 use Rattle.form_read.specs.declared.draft.Asked.{Asked}
 use Rattle.form_read.specs.Slots.{outside_meta, inside_meta, is_entity, meta_slots, slots_of}
@@ -26,6 +36,9 @@ use Rattle.form_read.specs.declared.refusal.FormRefused.{FormRefused}
 use Rattle.form_read.specs.declared.refusal.FormRefused.TheVariants.{UnknownPath, BadEntity}
 use Rattle.form_read.specs.Refusals.{◌>>=◌}
 use Rattle.form_read.specs.Primary.{has_path, path_taken, paths_taken, entity_path, is_no_entity, field_taken, entity_taken, part_taken, parts_taken, nothing_seen}
+use Rattle.form_read.specs.declared.scope.Scope.{Scope}
+use Rattle.form_read.specs.declared.draft.Draft.{Draft}
+use Rattle.form_read.specs.Drafts.{model_part_taken, model_taken, controls_taken, head_first, body_first, all_taken}
 use Rattle.form_read.specs.Forms.{field_of, fields_of}
 
 -- ---- the paths of the fields
@@ -203,3 +216,61 @@ all_differ root (p ∷ ps) seen after is =
 
 pub slots_differ : (root : List ℕ) (parts : List PrimaryPart) (seen : Seen) → parts_taken root nothing_seen parts ≡ Ok seen → AllPairs (λ a b. a.path ≢ b.path) (slots_of parts)
 slots_differ root parts seen is = (all_differ root parts nothing_seen seen is).apart
+
+-- ---- the primary instance is a part of the model, and was taken
+
+of_primary : (scope : Scope) (primary : List PrimaryPart) (d after : Draft) (parts : List ModelPart) → Contains parts part.Primary → model_taken scope primary d parts ≡ Ok after
+    → (seen : Seen) × (parts_taken scope.root nothing_seen primary ≡ Ok seen)
+of_primary scope primary d after [] (k, within, is) taken = absurd (omega (arith, within))
+of_primary scope primary d after (p ∷ ps) (zero, within, is) taken =
+    let (next, first, others) = then_ok (model_part_taken scope primary d p) (λ next. model_taken scope primary next ps) after taken in
+    let (seen, was, gives) = then_ok (parts_taken scope.root nothing_seen primary) (λ seen. Ok d) next (subst (λ p. model_part_taken scope primary d p ≡ Ok next) is first) in
+    (seen, was)
+of_primary scope primary d after (p ∷ ps) (suc k, within, is) taken =
+    let (next, first, others) = then_ok (model_part_taken scope primary d p) (λ next. model_taken scope primary next ps) after taken in
+    of_primary scope primary next after ps (k, omega (arith, within), is) others
+
+pub primary_was_taken : (is_body_first : Bool) (scope : Scope) (primary : List PrimaryPart) (controls : List Control) (d after : Draft) → Contains scope.model part.Primary
+    → all_taken is_body_first scope primary controls d ≡ Ok after → (seen : Seen) × (parts_taken scope.root nothing_seen primary ≡ Ok seen)
+unfolding head_first body_first
+primary_was_taken true scope primary controls d after has taken =
+    let (next, first, others) = then_ok (controls_taken scope d controls) (λ next. model_taken scope primary next scope.model) after taken in
+    of_primary scope primary next after scope.model has others
+primary_was_taken false scope primary controls d after has taken =
+    let (next, first, others) = then_ok (model_taken scope primary d scope.model) (λ next. controls_taken scope next controls) after taken in
+    of_primary scope primary d next scope.model has first
+
+then_some : {A B : Type 0} (o : Option A) (f : A → Option B) (y : B) → (outlines.◌>>=◌ o f) ≡ Some y → (x : A) × (o ≡ Some x) × (f x ≡ Some y)
+then_some (Some x) f y is = (x, refl, is)
+then_some None f y is = absurd cc
+
+first_instance : (found : Element) (o : Option Element) (ns : List Node) → find is_instance (cons_option o (elements ns)) ≡ Some found → (find is_instance (elements ns) ≡ Some found → Contains (parts_behind false ns) part.Primary)
+    → Contains (option_map_or (first_or_part false) o [] ++ parts_behind (has_instance false o) ns) part.Primary
+first_instance found None ns is behind = behind is
+first_instance found (Some e) ns is behind = at_element (is_instance e) e refl is
+  where
+    at_element : (b : Bool) (e : Element) → is_instance e ≡ b → find is_instance (e ∷ elements ns) ≡ Some found → Contains (first_or_part false e ++ parts_behind (is_instance e) ns) part.Primary
+    at_element true e here is = rw here (0, omega arith, refl)
+    at_element false e here is =
+        Contains-append_right (first_or_part false e) (parts_behind (is_instance e) ns) part.Primary
+        (subst (λ b. Contains (parts_behind b ns) part.Primary) (sym here) (behind (rw here at is)))
+
+has_primary : (found : Element) (nodes : List Node) → find is_instance (elements nodes) ≡ Some found → Contains (model_of nodes) part.Primary
+has_primary found [] is = absurd cc
+has_primary found (n ∷ ns) is = first_instance found (element_in n) ns is (has_primary found ns)
+
+outline_has_primary : (document : Element) (outline : Outline) → outline_of document ≡ Some outline → Contains outline.model part.Primary
+unfolding outline_of
+outline_has_primary document outline is =
+    let (head, head_is, past_head) = then_some (child_named (codes "head") document.children) _ outline is in
+    let (model, model_is, past_model) = then_some (child_named (codes "model") head.children) _ outline past_head in
+    let (instance, instance_is, past_instance) = then_some (child_named (codes "instance") model.children) _ outline past_model in
+    let (root, root_is, past_root) = then_some (first_element instance.children) _ outline past_instance in
+    let (body, body_is, gives) = then_some (child_named (codes "body") document.children) _ outline past_root in
+    subst (λ m. Contains m part.Primary) (same_model gives) (has_primary instance model.children instance_is)
+  where
+    same_model : {x y : Outline} → Some x ≡ Some y → x.model ≡ y.model
+    same_model is = cc
+
+pub model_has_primary : (bytes : List ℕ) (outline : Outline) → Outlines bytes outline → Contains outline.model part.Primary
+model_has_primary bytes outline (doc, is_doc, is) = outline_has_primary doc.root outline is
