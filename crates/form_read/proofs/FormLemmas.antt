@@ -19,10 +19,14 @@ use Rattle.form_read.specs.Forms.{drafted_by, drafted, fields_drafted, parts_dra
 use Rattle.form_read.specs.Forms as forms
 use Rattle.form_read.proofs.TellingLemmas.{tells_alike}
 
+drafted_with : (o : Outline) (r : FormRefused) → is_empty o.id ≡ false → nat_lt most_fields (length (slots_of o.primary)) ≡ false
+    → all_taken o.body_first (scope_of o) o.primary o.controls (empty_draft (slots_of o.primary)) ≡ Err r → drafted o ≡ Err r
+unfolding drafted draft_of
+drafted_with o r named few refused = rw (named, few, refused) refl
+
 drafted_if : (o : Outline) (slots : List PrimaryField) (r : FormRefused) → slots ≡ slots_of o.primary → is_empty o.id ≡ false → nat_lt most_fields (length slots) ≡ false
     → all_taken o.body_first (record { root = o.root; slots = slots; model = o.model }) o.primary o.controls (empty_draft slots) ≡ Err r → drafted o ≡ Err r
-unfolding drafted, draft_of
-drafted_if o slots r is named few refused = rw named (rw is at few (rw is at refused ?))
+drafted_if o slots r is named few refused = drafted_with o r named (rw is at few) (rw is at refused)
 
 -- a part is refused
 pub drafted_refused : (o : Outline) (slots : List PrimaryField) (start : Draft) (q : FormRefused) → slots ≡ slots_of o.primary → start ≡ empty_draft slots → is_empty o.id ≡ false
@@ -48,22 +52,22 @@ unfolding drafted
 drafted_err o q is = err_then o (draft_of o) q is
 
 pub refuses_part : (o : Outline) (q : FormRefused) → Tells q (drafted o) → RefusesParts o q
-refuses_part o (Doc refusal) t = forms.part _ (drafted_err o _ t)
-refuses_part o NoPrimary t = forms.part _ (drafted_err o _ t)
-refuses_part o NoId t = forms.part _ (drafted_err o _ t)
-refuses_part o (BadExpr path at) t = forms.part _ (drafted_err o _ t)
-refuses_part o (UnknownPath path) t = forms.part _ (drafted_err o _ t)
-refuses_part o (UnknownControl name) t = forms.part _ (drafted_err o _ t)
-refuses_part o (UnknownType path) t = forms.part _ (drafted_err o _ t)
-refuses_part o (Cycle path) t = forms.part _ (drafted_err o _ t)
-refuses_part o (UnknownList name) t = forms.part _ (drafted_err o _ t)
-refuses_part o (TooManyFields count) t = forms.part _ (drafted_err o _ t)
-refuses_part o (BadEntity path) t = forms.part _ (drafted_err o _ t)
-refuses_part o NoMemory t = forms.no_memory
+refuses_part o (Doc refusal) t = forms.by_part _ (drafted_err o _ t)
+refuses_part o NoPrimary t = forms.by_part _ (drafted_err o _ t)
+refuses_part o NoId t = forms.by_part _ (drafted_err o _ t)
+refuses_part o (BadExpr path at) t = forms.by_part _ (drafted_err o _ t)
+refuses_part o (UnknownPath path) t = forms.by_part _ (drafted_err o _ t)
+refuses_part o (UnknownControl name) t = forms.by_part _ (drafted_err o _ t)
+refuses_part o (UnknownType path) t = forms.by_part _ (drafted_err o _ t)
+refuses_part o (Cycle path) t = forms.by_part _ (drafted_err o _ t)
+refuses_part o (UnknownList name) t = forms.by_part _ (drafted_err o _ t)
+refuses_part o (TooManyFields count) t = forms.by_part _ (drafted_err o _ t)
+refuses_part o (BadEntity path) t = forms.by_part _ (drafted_err o _ t)
+refuses_part o NoMemory t = forms.by_memory
 
 no_order : (o : Outline) (d : Draft) (q : FormRefused) → draft_of o ≡ Ok d → HasNoOrder (fields_in o d) q → RefusesParts o q
-no_order o d q is (forms.cycle path why) = forms.cycle d path is why
-no_order o d q is forms.no_memory = forms.no_memory
+no_order o d q is (forms.has_cycle path why) = forms.by_cycle d path is why
+no_order o d q is forms.lacks_memory = forms.by_memory
 
 -- the fields have no order
 pub refuses_order : (o : Outline) (x : Drafted) (q : FormRefused) → drafted o ≡ Ok x → HasNoOrder (fields_drafted x) q → RefusesParts o q
@@ -75,5 +79,5 @@ form_is o x parts form is parts_is form_parts =
     record {
       draft = h.0;
       drafted = h.1;
-      parts = ?;
+      parts = form_parts ∙ (parts_is ∙ (ap (λ y. parts_drafted y parts.order) h.2 ∙ ap (λ order. parts_of o h.0 order) (sym (ap (λ p. p.order) form_parts))));
     }

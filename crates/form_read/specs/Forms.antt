@@ -152,8 +152,8 @@ pub record IsCycle (fields : List Field) (path : List ℕ) : Type 0 where
 
 -- why fields have no order
 pub data HasNoOrder (fields : List Field) : FormRefused → Type 0 where
-  cycle : (path : List ℕ) → IsCycle fields path → HasNoOrder fields (Cycle path)
-  no_memory : HasNoOrder fields NoMemory
+  has_cycle : (path : List ℕ) → IsCycle fields path → HasNoOrder fields (Cycle path)
+  lacks_memory : HasNoOrder fields NoMemory
 
 -- the parts of an outline are those of this form
 pub record IsFormOf (outline : Outline) (form : FormDef) : Type 0 where
@@ -164,9 +164,9 @@ pub record IsFormOf (outline : Outline) (form : FormDef) : Type 0 where
 -- Why the parts of an outline are no form: the first of them in document order that is refused, or the first of its fields that
 -- depends on itself.
 pub data RefusesParts (outline : Outline) : FormRefused → Type 0 where
-  part : (refusal : FormRefused) → draft_of outline ≡ Err refusal → RefusesParts outline refusal
-  cycle : (draft : Draft) (path : List ℕ) → draft_of outline ≡ Ok draft → IsCycle (fields_in outline draft) path → RefusesParts outline (Cycle path)
-  no_memory : RefusesParts outline NoMemory
+  by_part : (refusal : FormRefused) → draft_of outline ≡ Err refusal → RefusesParts outline refusal
+  by_cycle : (draft : Draft) (path : List ℕ) → draft_of outline ≡ Ok draft → IsCycle (fields_in outline draft) path → RefusesParts outline (Cycle path)
+  by_memory : RefusesParts outline NoMemory
 
 -- the bytes are a document that describes this form
 abbrev pub Describes : List ℕ → FormDef → Type 0
@@ -180,4 +180,4 @@ refusal_of fault.NoMemory = NoMemory
 -- Why bytes describe no form: they are no document with a model and a primary instance, or what that says is refused.
 pub data Refuses (bytes : List ℕ) : FormRefused → Type 0 where
   no_outline : (why : OutlineFault) → RefusesOutline bytes why → Refuses bytes (refusal_of why)
-  parts : (o : Outline) (refusal : FormRefused) → Outlines bytes o → RefusesParts o refusal → Refuses bytes refusal
+  no_form : (o : Outline) (refusal : FormRefused) → Outlines bytes o → RefusesParts o refusal → Refuses bytes refusal
