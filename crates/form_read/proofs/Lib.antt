@@ -2,3 +2,4 @@ pub mod TellingLemmas
 pub mod TextLemmas
 pub mod PathLemmas
 pub mod ResolvedLemmas
+pub mod WithinLemmas
