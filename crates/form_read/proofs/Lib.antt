@@ -3,3 +3,4 @@ pub mod TextLemmas
 pub mod PathLemmas
 pub mod ResolvedLemmas
 pub mod WithinLemmas
+pub mod DraftWithinLemmas
