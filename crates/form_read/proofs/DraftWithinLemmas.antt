@@ -1,5 +1,5 @@
 -- The fields that a draft gives read fields of the form alone.
-use Rattle.std.specs.Prelude.{◌≡◌, ℕ, zero, suc, ◌+◌, ◌<◌, Bool, true, false, ◌||◌, nat_lt, if◌then◌else◌, List, [], ◌∷◌, ◌++◌, Option, Some, None, Result, Ok, Err, IfOk, IfSome, length, map, slice_set, unwrap_or, refl}
+use Rattle.std.specs.Prelude.{◌≡◌, ℕ, zero, suc, ◌+◌, ◌<◌, Bool, true, false, nat_lt, if◌then◌else◌, List, [], ◌∷◌, Option, Some, None, Result, Ok, Err, IfOk, IfSome, length, map, slice_set, unwrap_or, refl}
 use Rattle.std.specs.List.{slice_index_or}
 use Rattle.std.specs.Str.{bytes_eq}
 use Rattle.std.proofs.Common.{sym, ◌∙◌, subst, arith, length-set}
@@ -7,10 +7,9 @@ use Rattle.std.proofs.lemmas.List.{length-map}
 use Rattle.std.proofs.lemmas.Bool.{and_from}
 use Rattle.std.proofs.lemmas.Result.{IfOk-at_ok}
 use Rattle.form_def.specs.declared.expr.Expr.{Expr}
-use Rattle.form_def.specs.declared.field.Kind.{Kind}
 use Rattle.form_def.specs.declared.field.Choices.{Choices}
 use Rattle.form_def.specs.declared.field.Choices.TheVariants as choices
-use Rattle.form_def.specs.Reads.{reads, reads_of}
+use Rattle.form_def.specs.Reads.{reads_of}
 use Rattle.form_def.specs.Fields.{reads_of_choices, reads_below, are_within}
 use Rattle.form_expr.specs.declared.syntax.Syntax.{Syntax}
 use Rattle.form_expr.specs.declared.syntax.Itemset.{Itemset}
@@ -42,11 +41,11 @@ use Rattle.form_read.specs.Slots.{slots_of, slot_of}
 use Rattle.form_read.specs.Paths.{is_leaf_at, leaf_of}
 use Rattle.form_read.specs.Expressions.{is_declared, resolved, or_bad, expr_at, optional_at}
 use Rattle.form_read.specs.Primary.{parts_taken, nothing_seen}
-use Rattle.form_read.specs.Binds.{is_below_meta, is_given, type_of, bound_by, field_bound, no_field_bound, bound_at, bind_taken}
+use Rattle.form_read.specs.Binds.{is_below_meta, is_given, type_of, bound_by, bound_at, bind_taken}
 use Rattle.form_read.specs.Tables.{has_table, list_named, source_taken, content_taken, table_taken, draws_id, setvalue_taken}
-use Rattle.form_read.specs.Controls.{is_control, is_input, control_kind, input_choices, filter_resolved, value_column, rows_resolved, rows_offered, part_offered, parts_offered, nothing_offered, fixed_choices, choices_in, select_choices, control_choices, asked_by, field_asked, asked_at, control_taken}
-use Rattle.form_read.specs.Drafts.{primary_taken, model_part_taken, model_taken, controls_taken, empty_draft, most_fields, head_first, body_first, all_taken, scope_of, taken_unless_many, draft_of}
-use Rattle.form_read.specs.Forms.{bound_in, asked_in, joined, field_of, fields_of, fields_in}
+use Rattle.form_read.specs.Controls.{is_control, is_input, control_kind, input_choices, filter_resolved, value_column, rows_resolved, rows_offered, part_offered, parts_offered, nothing_offered, fixed_choices, choices_in, select_choices, control_choices, asked_by, asked_at, control_taken}
+use Rattle.form_read.specs.Drafts.{model_part_taken, model_taken, controls_taken, empty_draft, most_fields, head_first, body_first, all_taken, scope_of, taken_unless_many, draft_of}
+use Rattle.form_read.specs.Forms.{bound_in, asked_in, joined, fields_of, fields_in}
 use Rattle.form_read.proofs.WithinLemmas.{AreWithin, IsWithin, IsFound, then_holds, both_within, position_within, resolves_within}
 
 -- each of the elements that are given, with its number, where the first has the number n

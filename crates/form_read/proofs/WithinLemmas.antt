@@ -1,11 +1,10 @@
 -- An expression that is resolved reads fields of the form alone.
-use Rattle.std.specs.Prelude.{◌≡◌, ℕ, ℤ, ◌<◌, Bool, true, false, cond, nat_lt, if◌then◌else◌, List, [], ◌∷◌, ◌++◌, Option, Some, None, Result, Ok, Err, IfOk, length, map, position, option_and_then, refl}
+use Rattle.std.specs.Prelude.{◌≡◌, ℕ, ℤ, ◌<◌, Bool, true, false, cond, nat_lt, if◌then◌else◌, List, [], ◌∷◌, ◌++◌, Option, Some, None, Result, Ok, Err, IfOk, length, map, position, refl}
 use Rattle.std.specs.List.{list_all, flat_map, position_or_len}
 use Rattle.std.proofs.Common.{ap, sym, ◌∙◌, subst}
 use Rattle.std.proofs.lemmas.Bool.{lt-ltb, ltb-true, and_from}
 use Rattle.std.proofs.lemmas.Result.{IfOk-at_ok}
 use Rattle.std.proofs.lemmas.List.Folds.{list_all-append}
-use Rattle.form_def.specs.declared.expr.Func.{Func}
 use Rattle.form_def.specs.declared.expr.Op.{Op}
 use Rattle.form_def.specs.declared.expr.Expr.{Expr, fold-roll-Expr}
 use Rattle.form_def.specs.declared.expr.Expr.TheVariants as e
@@ -17,10 +16,10 @@ use Rattle.form_outline.specs.declared.outline.PrimaryField.{PrimaryField}
 use Rattle.form_expr.specs.declared.syntax.Syntax.{Syntax, fold-roll-Syntax, ind-Syntax, roll-Syntax, map-Syntax}
 use Rattle.form_expr.specs.declared.syntax.Syntax.TheOpen.{Syntax-F}
 use Rattle.form_read.specs.declared.refusal.FormRefused.{FormRefused}
-use Rattle.form_read.specs.declared.refusal.FormRefused.TheVariants.{UnknownPath, UnknownList}
+use Rattle.form_read.specs.declared.refusal.FormRefused.TheVariants.{UnknownList}
 use Rattle.form_read.specs.declared.scope.Scope.{Scope}
 use Rattle.form_read.specs.Refusals.{◌>>=◌}
-use Rattle.form_read.specs.Paths.{is_leaf_at, leaf_of, has_at_sign, readable_of, read_from, path_from, field_read}
+use Rattle.form_read.specs.Paths.{is_leaf_at, leaf_of, has_at_sign, read_from, path_from, field_read}
 use Rattle.form_read.specs.Expressions.{is_declared, read_or_refused, path_resolved, all_resolved, resolved_with_parts, resolved}
 
 abbrev pub AreWithin : ℕ → List ℕ → Type 0
