@@ -4,3 +4,5 @@ pub mod PathLemmas
 pub mod ResolvedLemmas
 pub mod FormLemmas
 pub mod DifferLemmas
+pub mod WithinLemmas
+pub mod DraftWithinLemmas
