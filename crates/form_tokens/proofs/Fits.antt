@@ -1,12 +1,13 @@
 -- Characters that are passed, and how many are left.
-use Rattle.std.specs.Prelude.{ℕ, zero, suc, ◌≡◌, ◌+◌, ◌-◌, ◌*◌, ◌≤◌, ◌==◌, Bool, true, false, cond, nat_le, ◌&&◌, ◌||◌, List, [], ◌∷◌, ◌++◌, length, refl}
+use Rattle.std.specs.Prelude.{ℕ, zero, suc, ◌≡◌, ◌+◌, ◌-◌, ◌*◌, ◌<◌, ◌≤◌, ◌==◌, Bool, true, false, cond, nat_le, ◌<◌, ◌&&◌, ◌||◌, List, [], ◌∷◌, ◌++◌, length, take, fold, encode_utf8_all, refl}
 use Rattle.std.specs.List.{list_all}
-use Rattle.std.proofs.Common.{sym, ap, ◌∙◌, arith, append_assoc, eqb, eqb-true, leb-true}
+use Rattle.std.proofs.Common.{sym, ap, ◌∙◌, arith, append_assoc, eqb, eqb-true, leb-true, length-append}
+use Rattle.std.proofs.Math.Seq.{take-append_seam}
 use Rattle.std.proofs.lemmas.Bool.{cond_both, false≢true, ne_eqb, lt-leb}
 use Rattle.field_text.specs.Xml.{is_name_start, is_name_char, begins_as_name, is_local_name}
 use Rattle.rosa_pieces.specs.Reading.{past}
 use Rattle.rosa_pieces.proofs.Fronts.{rest_fits}
-use Rattle.form_tokens.specs.Tokens.{is_digit, digits_at, past_names, past_attribute, past_steps}
+use Rattle.form_tokens.specs.Tokens.{is_digit, digits_at, text_before, past_names, past_attribute, past_steps}
 use Rattle.form_tokens.specs.Spelling.{are_names, slashed, steps}
 
 pub and-first : (a b : Bool) → (a && b) ≡ true → a ≡ true
@@ -34,9 +35,23 @@ digits_fit zero value cs = omega arith
 digits_fit (suc n) value [] = omega arith
 digits_fit (suc n) value (c ∷ cs) = cond_both (is_digit c) (digits_at n (value * 10 + (c - 48)) cs) (value, c ∷ cs) (λ (x : ℕ × List ℕ). length x.1 ≤ length (c ∷ cs)) (λ _. omega (arith, digits_fit n (value * 10 + (c - 48)) cs)) (λ _. omega arith)
 
+-- the value of digits behind others with a value
+abbrev pub more_digits : ℕ → List ℕ → ℕ
+more_digits value ds = fold (λ v c. v * 10 + (c - 48)) value ds
+
+digits_stop : (n value : ℕ) (r : List ℕ) → length (digits_at n value r).1 ≡ length r → (digits_at n value r).0 ≡ value
+digits_stop zero value r same = refl
+digits_stop (suc n) value [] same = refl
+digits_stop (suc n) value (c ∷ cs) same = stop_at (is_digit c) same
+  where
+    stop_at : (b : Bool) → length (cond b (digits_at n (value * 10 + (c - 48)) cs) (value, c ∷ cs)).1 ≡ length (c ∷ cs) → (cond b (digits_at n (value * 10 + (c - 48)) cs) (value, c ∷ cs)).0 ≡ value
+    stop_at true same = absurd (omega (arith, digits_fit n (value * 10 + (c - 48)) cs))
+    stop_at false same = refl
+
 -- digits at the front are passed, as many as may be
-pub digits_pass : (n value : ℕ) (ds r : List ℕ) → list_all is_digit ds ≡ true → length ds ≤ n → length (digits_at n value (ds ++ r)).1 ≤ length r
-digits_pass n value [] r all few = digits_fit n value r
+pub digits_pass : (n value : ℕ) (ds r : List ℕ) → list_all is_digit ds ≡ true → length ds ≤ n
+    → (length (digits_at n value (ds ++ r)).1 ≤ length r) × (length (digits_at n value (ds ++ r)).1 ≡ length r → (digits_at n value (ds ++ r)).0 ≡ more_digits value ds)
+digits_pass n value [] r all few = (digits_fit n value r, digits_stop n value r)
 digits_pass zero value (d ∷ ds) r all few = absurd (omega arith)
 digits_pass (suc n) value (d ∷ ds) r all few =
     rw (and-first (is_digit d) (list_all is_digit ds) all) (digits_pass n (value * 10 + (d - 48)) ds r (and-second (is_digit d) (list_all is_digit ds) all) (omega arith))
@@ -116,11 +131,18 @@ steps_fit (a ∷ b ∷ []) = omega arith
 steps_fit (a ∷ b ∷ c ∷ cs) = cond_both ((a == 46) && (b == 46) && (c == 47)) (past_steps cs) (a ∷ b ∷ c ∷ cs) (λ (x : List ℕ). length x ≤ length (a ∷ b ∷ c ∷ cs)) (λ _. omega (arith, steps_fit cs)) (λ _. omega arith)
 
 -- a name behind steps leaves fewer characters than the period
-pub steps_shrink : (r : List ℕ) → begins_as_name (past_steps (46 ∷ r)) ≡ true → length (past_steps (46 ∷ r)) ≤ length r
+pub steps_shrink : (r : List ℕ) → begins_as_name (past_steps (46 ∷ r)) ≡ true → length (past_steps (46 ∷ r)) < length r
 steps_shrink [] begins = absurd (false≢true begins)
 steps_shrink (a ∷ []) begins = absurd (false≢true begins)
 steps_shrink (a ∷ b ∷ cs) begins = shrink_at ((a == 46) && (b == 47)) begins
   where
-    shrink_at : (t : Bool) → begins_as_name (cond t (past_steps cs) (46 ∷ a ∷ b ∷ cs)) ≡ true → length (cond t (past_steps cs) (46 ∷ a ∷ b ∷ cs)) ≤ length (a ∷ b ∷ cs)
+    shrink_at : (t : Bool) → begins_as_name (cond t (past_steps cs) (46 ∷ a ∷ b ∷ cs)) ≡ true → length (cond t (past_steps cs) (46 ∷ a ∷ b ∷ cs)) < length (a ∷ b ∷ cs)
     shrink_at true begins = omega (arith, steps_fit cs)
     shrink_at false begins = absurd (false≢true begins)
+
+-- the text of what spells a token, where so much is left
+pub text_is : (spelled r cs rest : List ℕ) → cs ≡ spelled ++ r → length rest ≡ length r → text_before cs rest ≡ encode_utf8_all spelled
+text_is spelled r cs rest parts same =
+    let long : length cs ≡ length spelled + length r = ap length parts ∙ length-append spelled r in
+    let count : length cs - length rest ≡ length spelled = omega arith in
+    ap encode_utf8_all (ap (λ n. take n cs) count ∙ (ap (take (length spelled)) parts ∙ take-append_seam spelled r))

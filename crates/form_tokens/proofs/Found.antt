@@ -1,8 +1,7 @@
 -- What is read stands at the front.
-use Rattle.std.specs.Prelude.{ℕ, zero, suc, pos, ◌≡◌, ◌+◌, ◌-◌, ◌*◌, ◌≤◌, ◌==◌, Bool, true, false, cond, ◌&&◌, ◌||◌, List, [], ◌∷◌, ◌++◌, length, take, fold, Option, Some, None, encode_utf8_all, refl}
+use Rattle.std.specs.Prelude.{ℕ, zero, suc, pos, ◌≡◌, ◌+◌, ◌-◌, ◌*◌, ◌≤◌, ◌==◌, Bool, true, false, cond, ◌&&◌, ◌||◌, List, [], ◌∷◌, ◌++◌, length, fold, Option, Some, None, encode_utf8_all, refl}
 use Rattle.std.specs.List.{list_all}
-use Rattle.std.proofs.Common.{sym, ap, subst, ◌∙◌, arith, append_assoc, eqb, eqb-true, length-append}
-use Rattle.std.proofs.Math.Seq.{take-append_seam}
+use Rattle.std.proofs.Common.{sym, ap, subst, ◌∙◌, arith, append_assoc, eqb, eqb-true}
 use Rattle.std.proofs.lemmas.Bool.{false≢true}
 use Rattle.field_text.specs.Xml.{is_name_start, is_name_char, begins_as_name, is_local_name}
 use Rattle.rosa_pieces.specs.Reading.{◌>>=◌, front, past, past_one}
@@ -12,7 +11,7 @@ use Rattle.form_tokens.specs.declared.token.Token.{Token}
 use Rattle.form_tokens.specs.declared.token.Token.TheVariants.{Digits, Quoted, Absolute, Relative, Name, Dot, Open, Close, OpenBracket, CloseBracket, Comma, Equal, NotEqual, Less, LessEqual, Greater, GreaterEqual, Plus, Minus, Star}
 use Rattle.form_tokens.specs.Tokens.{is_digit, digits_at, is_inside, text_before, quoted_at, past_names, past_attribute, absolute_at, past_steps, dotted_at, name_at, sign_or, not_equal_at, sign_at, digits_token, token_at}
 use Rattle.form_tokens.specs.Spelling.{value_of, is_quote, are_names, slashed, steps, IsToken, digits, quoted, absolute, absolute_attribute, relative, named, dot, opening, closing, opening_bracket, closing_bracket, comma, equal, not_equal, less, less_equal, greater, greater_equal, plus, minus, star, StandsBefore}
-use Rattle.form_tokens.proofs.Fits.{and-first, and-second}
+use Rattle.form_tokens.proofs.Fits.{and-first, and-second, text_is}
 
 -- what is read, if anything is, stands before what is left
 abbrev pub IsFound : List ℕ → Option (Token × List ℕ) → Type 0
@@ -23,15 +22,9 @@ either : (cs : List ℕ) (b : Bool) (x y : Option (Token × List ℕ)) → (b �
 either cs true x y h k = h refl
 either cs false x y h k = k refl
 
-text_is : (spelled cs rest : List ℕ) → cs ≡ spelled ++ rest → text_before cs rest ≡ encode_utf8_all spelled
-text_is spelled cs rest parts =
-    let long : length cs ≡ length spelled + length rest = ap length parts ∙ length-append spelled rest in
-    let count : length cs - length rest ≡ length spelled = omega arith in
-    ap encode_utf8_all (ap (λ n. take n cs) count ∙ (ap (take (length spelled)) parts ∙ take-append_seam spelled rest))
-
 -- a token whose text is its own characters
 stands : (f : List ℕ → Token) (spelled cs rest : List ℕ) → cs ≡ spelled ++ rest → IsToken (f (encode_utf8_all spelled)) spelled → StandsBefore (f (text_before cs rest)) cs rest
-stands f spelled cs rest parts is = (spelled, subst (λ (text : List ℕ). IsToken (f text) spelled) (sym (text_is spelled cs rest parts)) is, parts)
+stands f spelled cs rest parts is = (spelled, subst (λ (text : List ℕ). IsToken (f text) spelled) (sym (text_is spelled rest cs rest parts refl)) is, parts)
 
 record DigitsAt (n value : ℕ) (cs : List ℕ) (x : ℕ × List ℕ) : Type 0 where
   ds : List ℕ

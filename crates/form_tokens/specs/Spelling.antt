@@ -56,9 +56,9 @@ pub data IsToken : Token → List ℕ → Type 0 where
 abbrev pub StandsBefore : Token → List ℕ → List ℕ → Type 0
 StandsBefore token cs rest = (spelled : List ℕ) × IsToken token spelled × (cs ≡ spelled ++ rest)
 
--- no token at the front leaves less
-abbrev pub LeavesLeast : List ℕ → List ℕ → Type 0
-LeavesLeast cs rest = (token : Token) (others : List ℕ) → StandsBefore token cs others → length rest ≤ length others
+-- any token at the front leaves more than the rest, or is this one
+abbrev pub IsLongest : Token → List ℕ → List ℕ → Type 0
+IsLongest token cs rest = (other : Token) (left : List ℕ) → StandsBefore other cs left → (length rest ≤ length left) × (length left ≡ length rest → other ≡ token)
 
 abbrev pub HasNoToken : List ℕ → Type 0
 HasNoToken cs = (token : Token) (rest : List ℕ) → ¬ (StandsBefore token cs rest)

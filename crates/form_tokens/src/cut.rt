@@ -1,7 +1,7 @@
 ghost use Rattle.std.specs.Prelude.{◌≡◌, ◌<◌, ◌≤◌, ◌^◌, IfOk, length};
 ghost use Rattle.rosa_pieces.specs.Reading.{Gives};
 ghost use Rattle.form_tokens.specs.Tokens.{digits_at, digits_token, quoted_at, absolute_at, dotted_at, name_at, sign_or, not_equal_at, sign_at, token_at};
-ghost use Rattle.form_tokens.specs.Spelling.{StandsBefore, LeavesLeast, HasNoToken};
+ghost use Rattle.form_tokens.specs.Spelling.{StandsBefore, IsLongest, HasNoToken};
 
 use crate::Token;
 use crate::front::{
@@ -158,7 +158,7 @@ fn front_token(alloc: Global, chars: &[char]) -> Result<(Token, &[char]), Unread
 pub fn token_at(alloc: Global, chars: &[char]) -> Result<(Token, &[char]), Unread>
     ensures gives { Gives (λ x. (x.0, x.1.now)) result (token_at chars.now) }
     ensures found { IfOk result (λ x. StandsBefore x.0 chars.now x.1.now) }
-    ensures longest { IfOk result (λ x. LeavesLeast chars.now x.1.now) }
+    ensures longest { IfOk result (λ x. IsLongest x.0 chars.now x.1.now) }
     ensures none { result ≡ Err Unread.Absent → HasNoToken chars.now }
 {
     front_token(alloc, chars)
