@@ -114,7 +114,7 @@ then_ok : {A B : Type 0} (r : Result A FormRefused) (f : A → Result B FormRefu
 then_ok (Ok x) f y is = (x, refl, is)
 then_ok (Err refusal) f y is = absurd cc
 
-taken_if : {A : Type 0} (b : Bool) (refusal : FormRefused) (r : Result A FormRefused) (x : A) → (if b then Err refusal else r) ≡ Ok x → (b ≡ false) × (r ≡ Ok x)
+pub taken_if : {A : Type 0} (b : Bool) (refusal : FormRefused) (r : Result A FormRefused) (x : A) → (if b then Err refusal else r) ≡ Ok x → (b ≡ false) × (r ≡ Ok x)
 taken_if true refusal r x is = absurd cc
 taken_if false refusal r x is = (refl, is)
 

@@ -1,11 +1,19 @@
 -- From the parts of an outline to its form.
 use Rattle.std.specs.Prelude.{◌≡◌, ℕ, Bool, true, false, nat_lt, if◌then◌else◌, List, length, Result, Ok, Err, refl}
-use Rattle.std.proofs.Common.{ap, sym, ◌∙◌}
+use Rattle.std.specs.Prelude.{Contains, IfOk, IfErr, Option, Some, option_map, slice_get, ◌<◌}
+use Rattle.std.proofs.Common.{ap, sym, ◌∙◌, subst}
 use Rattle.form_def.specs.declared.form.FormDef.{FormDef}
 use Rattle.form_def.specs.declared.parts.FormParts.{FormParts}
 use Rattle.form_def.specs.FormDefs.{parts_of_form}
+use Rattle.form_def.specs.declared.field.Field.{Field}
+use Rattle.form_def.specs.Order.{is_order, dependencies_at}
+use Rattle.form_order.specs.Cycles.{IsFirstCycle}
+use Rattle.form_def.specs.Fields.{are_within}
 use Rattle.form_outline.specs.declared.outline.PrimaryField.{PrimaryField}
 use Rattle.form_outline.specs.declared.outline.Outline.{Outline}
+use Rattle.form_outline.specs.declared.outline.ModelPart.TheVariants as part
+use Rattle.form_outline.specs.Names.{IsNamed}
+use Rattle.form_outline.specs.Outlines.{Outlines}
 use Rattle.form_read.specs.declared.refusal.FormRefused.{FormRefused}
 use Rattle.form_read.specs.declared.refusal.FormRefused.TheVariants.{Doc, NoPrimary, NoId, BadExpr, UnknownPath, UnknownControl, UnknownType, Cycle, UnknownList, TooManyFields, BadEntity, NoMemory}
 use Rattle.form_read.specs.declared.scope.Scope.{Scope}
@@ -15,9 +23,11 @@ use Rattle.form_read.specs.Lists.{is_empty}
 use Rattle.form_read.specs.Refusals.{Tells, ◌>>=◌}
 use Rattle.form_read.specs.Slots.{slots_of}
 use Rattle.form_read.specs.Drafts.{empty_draft, all_taken, most_fields, scope_of, draft_of}
-use Rattle.form_read.specs.Forms.{drafted_by, drafted, fields_drafted, parts_drafted, parts_of, fields_in, IsFormOf, HasNoOrder, RefusesParts}
+use Rattle.form_read.specs.Forms.{drafted_by, drafted, fields_drafted, parts_drafted, parts_of, fields_in, IsFormOf, IsSound, HasNoOrder, RefusesParts, Refuses}
 use Rattle.form_read.specs.Forms as forms
 use Rattle.form_read.proofs.TellingLemmas.{tells_alike}
+use Rattle.form_read.proofs.DifferLemmas.{slots_named, fields_named, slots_differ, fields_differ, primary_was_taken, taken_if}
+use Rattle.form_read.proofs.DraftWithinLemmas.{draft_within}
 
 drafted_with : (o : Outline) (r : FormRefused) → is_empty o.id ≡ false → nat_lt most_fields (length (slots_of o.primary)) ≡ false
     → all_taken o.body_first (scope_of o) o.primary o.controls (empty_draft (slots_of o.primary)) ≡ Err r → drafted o ≡ Err r
@@ -81,3 +91,45 @@ form_is o x parts form is parts_is form_parts =
       drafted = h.1;
       parts = form_parts ∙ (parts_is ∙ (ap (λ y. parts_drafted y parts.order) h.2 ∙ ap (λ order. parts_of o h.0 order) (sym (ap (λ p. p.order) form_parts))));
     }
+
+all_were_taken : (o : Outline) (d : Draft) → draft_of o ≡ Ok d → all_taken o.body_first (scope_of o) o.primary o.controls (empty_draft (slots_of o.primary)) ≡ Ok d
+unfolding draft_of
+all_were_taken o d is =
+    let h = taken_if (is_empty o.id) NoId _ _ is in (taken_if (nat_lt most_fields (length (scope_of o).slots)) (TooManyFields (length (scope_of o).slots)) _ _ h.1).1
+
+sound_with : (o : Outline) (d : Draft) (order : List ℕ) → IsNamed o → Contains o.model part.Primary → draft_of o ≡ Ok d → is_order (fields_in o d) order ≡ true → IsSound (parts_drafted (drafted_by o d) order)
+sound_with o d order named primary is ordered =
+    let seen = primary_was_taken o.body_first (scope_of o) o.primary o.controls (empty_draft (slots_of o.primary)) d primary (all_were_taken o d is) in
+    record {
+      root_named = named.0;
+      paths_named = fields_named o.root (slots_of o.primary) d.bounds d.asked (slots_named o named);
+      paths_differ = fields_differ (slots_of o.primary) d.bounds d.asked (slots_differ o.root o.primary seen.0 seen.1);
+      numbers_within = draft_within o d is;
+      ordered = ordered;
+    }
+
+-- parts that are drafted lack nothing
+pub sound : (o : Outline) (x : Drafted) (parts : FormParts) → IsNamed o → Contains o.model part.Primary → drafted o ≡ Ok x → parts ≡ parts_drafted x parts.order → is_order (fields_drafted x) parts.order ≡ true
+    → IsSound parts
+sound o x parts named primary is parts_are ordered =
+    let h = drafted_is o x is in
+    let g = sound_with o h.0 parts.order named primary h.1 (subst (λ y. is_order (fields_drafted y) parts.order ≡ true) h.2 ordered) in
+    subst IsSound (sym (parts_are ∙ ap (λ y. parts_drafted y parts.order) h.2)) g
+
+pub drafted_within : (o : Outline) (x : Drafted) → drafted o ≡ Ok x → are_within (length (fields_drafted x)) 0 (fields_drafted x) ≡ true
+drafted_within o x is =
+    let h = drafted_is o x is in
+    subst (λ y. are_within (length (fields_drafted y)) 0 (fields_drafted y) ≡ true) (sym h.2) (draft_within o h.0 h.1)
+
+pub if_err : {A E : Type 0} {P : E → Type 0} {Q : E → Type 0} (r : Result A E) → ((q : E) → P q → Q q) → IfErr r P → IfErr r Q
+if_err (Ok x) f h = h
+if_err (Err q) f h = f q h
+
+pub if_ok : {A E : Type 0} {P : A → Type 0} {Q : A → Type 0} (r : Result A E) → ((x : A) → P x → Q x) → IfOk r P → IfOk r Q
+if_ok (Ok x) f h = f x h
+if_ok (Err q) f h = h
+
+-- the first field that depends on itself is told by its path
+pub cycle_told : (fields : List Field) (number : ℕ) (item : Field) (path : List ℕ) → IsFirstCycle (dependencies_at fields) (length fields) number → slice_get fields number ≡ Some item → path ≡ item.path
+    → HasNoOrder fields (Cycle path)
+cycle_told fields number item path first is path_is = forms.has_cycle path (record { number = number; first = first; path_is = ap (option_map (λ f. f.path)) is ∙ ap Some (sym path_is) })

@@ -7,7 +7,7 @@ ghost use Rattle.form_outline.specs.declared.outline.ModelPart.TheVariants as pa
 ghost use Rattle.form_outline.specs.Names.{IsNamed};
 ghost use Rattle.form_read.specs.declared.refusal.FormRefused.TheVariants as refused_for;
 ghost use Rattle.form_read.specs.Refusals.{Gives};
-ghost use Rattle.form_read.specs.Forms.{auto_send_by, auto_send_in, dataset_in, entity_def, drafted, fields_drafted, parts_drafted, IsSound, HasNoOrder, IsFormOf, RefusesParts, Describes, Refuses};
+ghost use Rattle.form_read.specs.Forms.{auto_send_by, auto_send_in, dataset_in, entity_def, drafted, fields_drafted, parts_drafted, IsSound, HasNoOrder, IsFormOf, RefusesParts, refusal_of, Describes, Refuses};
 
 use crate::draft::{Draft, Drafted};
 use crate::drafts::{all_taken, empty_draft};
@@ -185,6 +185,16 @@ fn form_of(alloc: Global, outline: Outline) -> Result<FormDef, FormRefused>
     form_from(alloc, parts)
 }
 
+fn refusal_of(fault: OutlineFault) -> FormRefused
+    ensures { result ≡ refusal_of fault }
+{
+    match fault {
+        OutlineFault::Doc(refusal) => FormRefused::Doc(refusal),
+        OutlineFault::NoPrimary => FormRefused::NoPrimary,
+        OutlineFault::NoMemory => FormRefused::NoMemory,
+    }
+}
+
 /// The form that the bytes of a document describe (ODK XForms in a profile).
 pub fn read_form(alloc: Global, bytes: &[u8]) -> Result<FormDef, FormRefused>
     ensures form { IfOk result (λ form. Describes bytes.now form) }
@@ -192,8 +202,6 @@ pub fn read_form(alloc: Global, bytes: &[u8]) -> Result<FormDef, FormRefused>
 {
     match read_outline(alloc, bytes) {
         Ok(outline) => form_of(alloc, outline),
-        Err(OutlineFault::Doc(refusal)) => Err(FormRefused::Doc(refusal)),
-        Err(OutlineFault::NoPrimary) => Err(FormRefused::NoPrimary),
-        Err(OutlineFault::NoMemory) => Err(FormRefused::NoMemory),
+        Err(fault) => Err(refusal_of(fault)),
     }
 }
