@@ -22,7 +22,7 @@ pub record Spells {A : Type 0} (IsWhole : List Token → A → Type 0) (text : L
   pub first : AreFirst tokens (chars text) []
   pub is_whole : IsWhole tokens whole
 
--- nothing whole begins with the tokens and the one that begins here, or none does; at the end, the tokens are nothing whole
+-- no token begins here with which and the tokens before it something whole begins; at the end, the tokens are nothing whole
 abbrev pub CantGoOn : {A : Type 0} → (List Token → A → Type 0) → List Token → List ℕ → Type 0
 CantGoOn {A} IsWhole tokens [] = (whole : A) → IsWhole tokens whole → ⊥
 CantGoOn IsWhole tokens (c ∷ cs) = (token : Token) (after : List ℕ) → token_at (c ∷ cs) ≡ Some (token, after) → Begins IsWhole (tokens ++ token ∷ []) → ⊥

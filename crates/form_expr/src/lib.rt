@@ -1,11 +1,15 @@
 //! Expressions as they are written (XPath 1.0 in a profile): operands and operators as trees, by precedence.
 #![tactic(auto)]
 
+mod calls;
 mod expected;
 mod laws;
+mod operands;
+mod operators;
 mod pending;
 mod progress;
 mod reading;
+mod rows;
 mod syntax;
 #[cfg(test)]
 mod tests;

@@ -11,6 +11,9 @@ use std::alloc::Global;
 /// How tightly a minus sign binds the operand behind it.
 pub const SIGNS: u8 = 7;
 
+/// How tightly an operator binds at least.
+pub const ALL_OPERATORS: u8 = 1;
+
 /// How many parentheses and brackets may be open.
 const NESTING: usize = 32;
 

@@ -1,5 +1,6 @@
 ghost use Rattle.std.specs.Prelude.{◌≡◌};
 ghost use Rattle.form_expr.specs.Words.{named_operator as operator_named, operator_of as operator, function_of as function_named, arguments as arguments_of, may_take as may_be_taken, takes_more as more_taken};
+ghost use Rattle.form_expr.specs.Machine.{is_open as opens, is_close as closes, is_open_bracket as opens_bracket, is_instance as is_word_instance, is_rows as is_path_of_rows};
 ghost use Rattle.form_expr.specs.Precedence.{level as level_of};
 
 use field_text::Text;
@@ -128,5 +129,41 @@ pub fn takes_more(func: Func, number: usize) -> bool
     match arguments(func) {
         Some(taken) => number < taken,
         None => true,
+    }
+}
+
+pub fn is_open(token: &Token) -> bool
+    ensures { result ≡ opens token.now }
+{
+    matches!(token, Token::Open)
+}
+
+pub fn is_close(token: &Token) -> bool
+    ensures { result ≡ closes token.now }
+{
+    matches!(token, Token::Close)
+}
+
+pub fn is_open_bracket(token: &Token) -> bool
+    ensures { result ≡ opens_bracket token.now }
+{
+    matches!(token, Token::OpenBracket)
+}
+
+pub fn is_instance(token: &Token) -> bool
+    ensures { result ≡ is_word_instance token.now }
+{
+    match token {
+        Token::Name(name) => name.bytes() == b"instance".as_slice(),
+        _ => false,
+    }
+}
+
+pub fn is_rows(token: &Token) -> bool
+    ensures { result ≡ is_path_of_rows token.now }
+{
+    match token {
+        Token::Absolute(path) => path.bytes() == b"/root/item".as_slice(),
+        _ => false,
     }
 }

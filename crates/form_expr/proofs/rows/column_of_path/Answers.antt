@@ -1,6 +1,6 @@
 use Rattle.std.proofs.Common.{◌∙◌}
 use Rattle.form_expr.proofs.Columns.{no_column}
-use Rattle.form_expr.proofs.progress.column_of_path.Goals as goal
+use Rattle.form_expr.proofs.rows.column_of_path.Goals as goal
 
 pub returns-in_default : goal.returns-in_default
 unfolding lib.Utf8.encode
