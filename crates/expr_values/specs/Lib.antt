@@ -1,0 +1,6 @@
+pub mod Numbers
+pub mod Values
+pub mod Operators
+pub mod Functions
+pub mod Rows
+pub mod Evaluation
