@@ -1,1 +1,4 @@
 pub mod DigitLemmas
+pub mod PieceLemmas
+pub mod ValueLemmas
+pub mod LookUpLemmas

@@ -1,5 +1,5 @@
 -- Functions of values (XPath 1.0, section 4, and ODK XForms, in a profile).
-use Rattle.std.specs.Prelude.{ℕ, pos, Bool, true, false, not, ◌==◌, nat_le, if◌then◌else◌, List, [], ◌∷◌, length, filter, chars}
+use Rattle.std.specs.Prelude.{ℕ, pos, Bool, true, false, not, ◌==◌, nat_le, if◌then◌else◌, List, [], ◌∷◌, length, chars, count_by, ◌&&◌}
 use Rattle.std.specs.List.{list_any, slice_index_or, slice_split, flat_map}
 use Rattle.std.specs.Str.{bytes_eq}
 use Rattle.form_def.specs.declared.expr.Func.{Func}
@@ -19,12 +19,15 @@ is_some_text text = truth_of (Words text)
 abbrev pub cut_at_spaces : List ℕ → List (List ℕ)
 cut_at_spaces text = slice_split (λ c. c == 32) text
 
--- the same, without the empty ones
-abbrev pub pieces : List ℕ → List (List ℕ)
-pieces text = filter is_some_text (cut_at_spaces text)
+-- one of the pieces, of which the empty ones don't count
+abbrev pub is_piece : List ℕ → List ℕ → Bool
+is_piece piece part = is_some_text part && bytes_eq part piece
 
 abbrev pub is_selected : List ℕ → List ℕ → Bool
-is_selected text piece = list_any (λ p. bytes_eq p piece) (pieces text)
+is_selected text piece = list_any (is_piece piece) (cut_at_spaces text)
+
+abbrev pub piece_count : List ℕ → ℕ
+piece_count text = count_by is_some_text (cut_at_spaces text)
 
 -- the text, or the empty one where it has more than 8,000 bytes
 abbrev pub joined : List ℕ → List ℕ
@@ -35,7 +38,7 @@ called Yes args = Truth true
 called No args = Truth false
 called Not args = Truth (not (truth_of (argument args 0)))
 called Selected args = Truth (is_selected (text_of (argument args 0)) (text_of (argument args 1)))
-called CountSelected args = whole (pos (length (pieces (text_of (argument args 0)))))
+called CountSelected args = whole (pos (piece_count (text_of (argument args 0))))
 called StringLength args = whole (pos (length (chars (text_of (argument args 0)))))
 called Concat args = Words (joined (flat_map text_of args))
 called Choose args = if truth_of (argument args 0) then argument args 1 else argument args 2

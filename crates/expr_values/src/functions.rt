@@ -2,8 +2,9 @@ ghost use Rattle.std.specs.Prelude.{◌≡◌, ◌++◌, IfOk, ℕ, List, [], �
 ghost use Rattle.std.specs.List.{flat_map};
 ghost use Rattle.form_def.specs.declared.expr.Func.TheVariants.{Choose, Selected};
 ghost use Rattle.expr_values.specs.Values.{whole, truth_of, text_of};
-ghost use Rattle.expr_values.specs.Functions.{argument, is_some_text, pieces, is_selected as selected, joined, called};
+ghost use Rattle.expr_values.specs.Functions.{argument, is_some_text, is_selected as selected, piece_count as pieces_in, joined, called};
 
+use crate::pieces::{is_piece, split_piece};
 use crate::value::Value;
 use field_text::{NoMemory, Text};
 use form_def::Func;
@@ -45,20 +46,31 @@ fn value_at(alloc: Global, args: &[Value], place: usize) -> Result<Value, NoMemo
     }
 }
 
+/// Whether this is one of the pieces that the text is cut into at single spaces; the empty ones don't count.
 fn is_selected(text: &[u8], piece: &[u8]) -> bool
     ensures { result ≡ selected text.now piece.now }
 {
-    text.split(|byte| *byte == b' ')
-        .filter(|part| !part.is_empty())
-        .any(|part| *part == *piece)
+    let mut rest = text;
+    while let Some((part, behind)) = split_piece(rest) {
+        if is_piece(part, piece) {
+            return true;
+        }
+        rest = behind;
+    }
+    is_piece(rest, piece)
 }
 
+/// How many pieces the text is cut into at single spaces; the empty ones don't count.
 fn piece_count(text: &[u8]) -> usize
-    ensures { result ≡ length (pieces text.now) }
+    ensures { result ≡ pieces_in text.now }
 {
-    text.split(|byte| *byte == b' ')
-        .filter(|part| !part.is_empty())
-        .count()
+    let mut count = 0;
+    let mut rest = text;
+    while let Some((part, behind)) = split_piece(rest) {
+        count += usize::from(!part.is_empty());
+        rest = behind;
+    }
+    count + usize::from(!rest.is_empty())
 }
 
 fn character_count(text: &str) -> usize

@@ -2,11 +2,17 @@
 #![tactic(auto)]
 
 mod digits;
+mod evaluation;
 mod functions;
 mod operators;
+mod pieces;
+mod rows;
 mod value;
 
+pub use digits::is_whole;
+pub use evaluation::{Scope, evaluate, holds, read_text};
 pub use functions::call;
 pub use operators::{negative, pair};
-pub use digits::is_whole;
+pub use pieces::split_piece;
+pub use rows::Row;
 pub use value::Value;

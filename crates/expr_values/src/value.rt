@@ -1,6 +1,5 @@
 ghost use Rattle.std.specs.Prelude.{◌≡◌, ◌++◌, IfOk};
 ghost use Rattle.expr_values.specs.Values.{whole, truth_of, number_of, text_of, calculated_text};
-
 ghost use Rattle.std.specs.Fmt.{signed_decimal};
 
 use crate::digits::number_in;
