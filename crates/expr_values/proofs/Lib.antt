@@ -2,3 +2,4 @@ pub mod DigitLemmas
 pub mod PieceLemmas
 pub mod ValueLemmas
 pub mod LookUpLemmas
+pub mod DependsLemmas
