@@ -17,6 +17,7 @@ use std::alloc::Global;
 
 /// What the expressions of a field read: the form, the text of each field and whether it is shown, the tables of the device, and
 /// the field's own number.
+#[derive(Drop)]
 pub struct Scope<'a, T> {
     pub form: &'a FormDef,
     pub texts: &'a [Text],

@@ -47,7 +47,7 @@ fn value_at(alloc: Global, args: &[Value], place: usize) -> Result<Value, NoMemo
 }
 
 /// Whether this is one of the pieces that the text is cut into at single spaces; the empty ones don't count.
-fn is_selected(text: &[u8], piece: &[u8]) -> bool
+pub fn is_selected(text: &[u8], piece: &[u8]) -> bool
     ensures { result ≡ selected text.now piece.now }
 {
     let mut rest = text;

@@ -11,7 +11,7 @@ mod value;
 
 pub use digits::is_whole;
 pub use evaluation::{Scope, evaluate, holds, read_text};
-pub use functions::call;
+pub use functions::{call, is_selected};
 pub use operators::{negative, pair};
 pub use pieces::split_piece;
 pub use rows::Row;

@@ -1,0 +1,14 @@
+//! Questions of a form: which are shown, what is calculated, which answers are taken, and what a sheet lacks.
+#![tactic(auto)]
+
+mod answers;
+mod faults;
+mod marks;
+mod settling;
+mod sheet;
+
+pub use answers::AnswerRefused;
+pub use faults::{Cause, Fault};
+pub use marks::{read_field, shown, shown_marks};
+pub use settling::settle;
+pub use sheet::Sheet;
