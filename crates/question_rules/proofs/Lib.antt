@@ -1,0 +1,4 @@
+pub mod Placed
+pub mod Agreement
+pub mod Making
+pub mod Unique

@@ -14,9 +14,7 @@ pub enum AnswerRefused {
     /// It has more than 2,000 bytes.
     TooLong,
     /// A document can't hold the character at this byte.
-    BadChar {
-        at: usize,
-    },
+    BadChar { at: usize },
     NoMemory,
 }
 

@@ -3,12 +3,14 @@
 
 mod answers;
 mod faults;
+mod laws;
 mod marks;
 mod settling;
 mod sheet;
 
 pub use answers::AnswerRefused;
 pub use faults::{Cause, Fault};
+pub use laws::{marks_are_unique, settled_texts_are_unique};
 pub use marks::{read_field, shown, shown_marks};
 pub use settling::settle;
 pub use sheet::Sheet;
