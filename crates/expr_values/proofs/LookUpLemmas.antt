@@ -1,8 +1,10 @@
 -- Looking up in the rows of a table, one after the other.
-use Rattle.std.specs.Prelude.{ℕ, suc, ◌+◌, ◌<◌, ◌≡◌, Bool, true, false, cond, List, [], ◌∷◌, map, length, drop, find, slice_get, Option, Some, None, refl}
+use Rattle.std.specs.Prelude.{ℕ, suc, ◌+◌, ◌<◌, ◌≡◌, Bool, true, false, cond, List, [], ◌∷◌, ◌++◌, map, flat_map, length, take, drop, find, slice_get, Option, Some, None, refl}
 use Rattle.std.specs.Option.{option_map_or}
 use Rattle.std.specs.Str.{bytes_eq}
 use Rattle.std.proofs.Common.{ap, sym, ◌∙◌, get_or, drop-cons, add-one}
+use Rattle.std.proofs.lemmas.List.{take_more, map-append, append-nil}
+use Rattle.std.proofs.lemmas.Grind.{flat_map-append}
 use Rattle.std.proofs.lemmas.Option.{slice_get-get_or}
 use Rattle.field_text.specs.Tables.{NamedCell, NamedTable, table_rows, text_in, cell_text, row_count}
 use Rattle.form_def.specs.declared.field.InnerTable.{InnerTable}
@@ -53,3 +55,16 @@ rows_not_inner form tables name none = ap (λ o. option_map_or (λ t. map column
 pub rows_outer : (outer : List OuterTable) (tables : List NamedTable) (name : List ℕ) (table : OuterTable) → Some table ≡ find (λ t. bytes_eq t.name name) outer
     → outer_rows outer tables name ≡ map text_in (table_rows tables table.list)
 rows_outer outer tables name table found = ap (λ o. option_map_or (λ t. map text_in (table_rows tables t.list)) o []) (sym found)
+
+-- what one row more offers
+pub offers_more : (f : Columns → List (List ℕ)) (tables : List NamedTable) (list : List ℕ) (number : ℕ) (old new : List (List ℕ)) → number < row_count tables list
+    → old ≡ flat_map f (map text_in (take number (table_rows tables list))) → new ≡ old ++ f (cell_text tables list number)
+    → new ≡ flat_map f (map text_in (take (number + 1) (table_rows tables list)))
+offers_more f tables list number old new within so_far is =
+    let rows = table_rows tables list in
+    let cells = get_or rows number [] in
+    let more : map text_in (take (number + 1) rows) ≡ map text_in (take number rows) ++ cell_text tables list number ∷ [] =
+    rw (columns_at tables list number within) (ap (map text_in) (take_more rows number [] within) ∙ map-append text_in (take number rows) (cells ∷ [])) in
+    is ∙ ap (λ o. o ++ f (cell_text tables list number)) so_far
+    ∙ sym (ap (flat_map f) more ∙ flat_map-append f (map text_in (take number rows)) (cell_text tables list number ∷ [])
+      ∙ ap (λ r. flat_map f (map text_in (take number rows)) ++ r) (append-nil (f (cell_text tables list number))))

@@ -1,5 +1,5 @@
 -- The value of an expression, by its structure.
-use Rattle.std.specs.Prelude.{ℕ, Bool, false, cond, List, [], ◌∷◌, map, find}
+use Rattle.std.specs.Prelude.{ℕ, Bool, true, false, cond, if◌then◌else◌, List, [], ◌∷◌, map, find, flat_map, Option, Some, None}
 use Rattle.std.specs.List.{slice_index_or}
 use Rattle.std.specs.Option.{option_map_or}
 use Rattle.field_text.specs.Tables.{NamedTable}
@@ -38,6 +38,19 @@ value_with_parts s (Expr-F.Negative negated) row = negative (negated row)
 
 abbrev pub value_in : Surroundings → Expr → Columns → Value
 value_in s = fold-Expr (Columns → Value) (value_with_parts s)
+
+-- whether a filter holds in a row, as it does where there is none
+abbrev pub row_holds : Surroundings → Option Expr → Columns → Bool
+row_holds s None row = true
+row_holds s (Some filter) row = truth_of (value_in s filter row)
+
+-- what a row offers: its column, where the filter holds
+abbrev pub offer : Surroundings → Option Expr → List ℕ → Columns → List (List ℕ)
+offer s filter column row = if row_holds s filter row then row column ∷ [] else []
+
+-- what the rows of a table offer
+abbrev pub offers : Surroundings → Option Expr → List ℕ → List Columns → List (List ℕ)
+offers s filter column rows = flat_map (offer s filter column) rows
 
 -- the text of a field as expressions read it: none where the field isn't shown
 abbrev pub text_read : List (List ℕ) → List Bool → ℕ → List ℕ

@@ -4,6 +4,7 @@
 mod digits;
 mod evaluation;
 mod functions;
+mod offering;
 mod operators;
 mod pieces;
 mod rows;
@@ -12,6 +13,7 @@ mod value;
 pub use digits::is_whole;
 pub use evaluation::{Scope, evaluate, holds, read_text};
 pub use functions::{call, is_selected};
+pub use offering::offers;
 pub use operators::{negative, pair};
 pub use pieces::split_piece;
 pub use rows::Row;

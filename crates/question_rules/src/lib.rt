@@ -8,8 +8,8 @@ mod marks;
 mod settling;
 mod sheet;
 
-pub use answers::AnswerRefused;
-pub use faults::{Cause, Fault};
+pub use answers::{AnswerRefused, fill};
+pub use faults::{Cause, Fault, first_fault};
 pub use laws::{marks_are_unique, settled_texts_are_unique};
 pub use marks::{read_field, shown, shown_marks};
 pub use settling::settle;

@@ -38,7 +38,8 @@ fn calculated<T: Tables>(
     Ok(Some(value.calculated_text(alloc)?))
 }
 
-fn put_text(texts: &mut [Text], number: u64, text: Text)
+/// Stores the text of a field, where the form has one of this number.
+pub fn put_text(texts: &mut [Text], number: u64, text: Text)
     ensures { texts.new ≡ slice_set texts.old number text }
 {
     if (number as usize) < texts.len() {
