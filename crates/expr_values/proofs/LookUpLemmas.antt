@@ -67,4 +67,4 @@ offers_more f tables list number old new within so_far is =
     rw (columns_at tables list number within) (ap (map text_in) (take_more rows number [] within) ∙ map-append text_in (take number rows) (cells ∷ [])) in
     is ∙ ap (λ o. o ++ f (cell_text tables list number)) so_far
     ∙ sym (ap (flat_map f) more ∙ flat_map-append f (map text_in (take number rows)) (cell_text tables list number ∷ [])
-      ∙ ap (λ r. flat_map f (map text_in (take number rows)) ++ r) (append-nil (f (cell_text tables list number))))
+    ∙ ap (λ r. flat_map f (map text_in (take number rows)) ++ r) (append-nil (f (cell_text tables list number))))

@@ -2,3 +2,4 @@ pub mod Placed
 pub mod Agreement
 pub mod Making
 pub mod Unique
+pub mod QuestionLemmas
