@@ -29,7 +29,7 @@ fn find_cell<'a>(cells: &'a [Cell], column: &Text) -> Option<&'a Cell>
 }
 
 /// The text in a column of a row in the form, empty where the row lacks it.
-fn inner_cell(alloc: Global, cells: &[Cell], column: &Text) -> Result<Text, NoMemory>
+pub fn inner_cell(alloc: Global, cells: &[Cell], column: &Text) -> Result<Text, NoMemory>
     ensures { IfOk result (λ text. text ≡ columns_of cells.now column.now) }
 {
     match find_cell(cells, column) {
