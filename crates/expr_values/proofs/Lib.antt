@@ -3,3 +3,4 @@ pub mod PieceLemmas
 pub mod ValueLemmas
 pub mod LookUpLemmas
 pub mod DependsLemmas
+pub mod TestLemmas

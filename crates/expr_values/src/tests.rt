@@ -19,7 +19,9 @@ static FIELDS: [(&str, &str, bool); 5] = [
 ];
 
 // An expression, the same behind its parts, and its value.
-static VALUES: [(&str, &str, &str); 160] = [
+type Given = (&'static str, &'static str, &'static str);
+
+static OPERANDS: [Given; 17] = [
     ("7", "7", "number 7"),
     ("'oak'", "'oak", "words oak"),
     ("''", "'", "words "),
@@ -45,6 +47,9 @@ static VALUES: [(&str, &str, &str); 160] = [
         "'a~b 'b selected/2 'y 'n if/3",
         "words y",
     ),
+];
+
+static EQUALITIES: [Given; 29] = [
     ("true() = 1", "true/0 1 =", "truth true"),
     ("true() = 2", "true/0 2 =", "truth true"),
     ("2 = true()", "2 true/0 =", "truth true"),
@@ -74,6 +79,9 @@ static VALUES: [(&str, &str, &str); 160] = [
     ("'oak' = 'Oak'", "'oak 'Oak =", "truth false"),
     ("'' = ''", "' ' =", "truth true"),
     ("-0 = 0", "0 neg 0 =", "truth true"),
+];
+
+static ORDERS: [Given; 17] = [
     ("1 < 2", "1 2 <", "truth true"),
     ("2 < 2", "2 2 <", "truth false"),
     ("2 <= 2", "2 2 <=", "truth true"),
@@ -91,6 +99,9 @@ static VALUES: [(&str, &str, &str); 160] = [
     ("'-5' < '-4'", "'-5 '-4 <", "truth true"),
     ("('a' + 1) < 1", "'a 1 + 1 <", "truth false"),
     ("('a' + 1) >= 1", "'a 1 + 1 >=", "truth false"),
+];
+
+static LOGIC: [Given; 12] = [
     ("true() and false()", "true/0 false/0 and", "truth false"),
     ("true() or false()", "true/0 false/0 or", "truth true"),
     ("'a' and 1", "'a 1 and", "truth true"),
@@ -103,6 +114,9 @@ static VALUES: [(&str, &str, &str); 160] = [
     ("not(0)", "0 not/1", "truth true"),
     ("not('a' + 1)", "'a 1 + not/1", "truth true"),
     ("not(/data/c)", "#2 not/1", "truth true"),
+];
+
+static ARITHMETIC: [Given; 20] = [
     ("2 + 3 * 4", "2 3 4 * +", "number 14"),
     ("10 - 4 - 3", "10 4 - 3 -", "number 3"),
     ("3 - 10", "3 10 -", "number -7"),
@@ -131,6 +145,9 @@ static VALUES: [(&str, &str, &str); 160] = [
         "'-999999999999999 0 +",
         "number -999999999999999",
     ),
+];
+
+static BOUNDS: [Given; 20] = [
     ("'1234567890123456' + 0", "'1234567890123456 0 +", "NaN"),
     ("'0000000000000001' + 0", "'0000000000000001 0 +", "NaN"),
     (
@@ -179,6 +196,9 @@ static VALUES: [(&str, &str, &str); 160] = [
     ("3 mod 7", "3 7 mod", "number 3"),
     ("'7' mod '4'", "'7 '4 mod", "number 3"),
     ("'a' mod 4", "'a 4 mod", "NaN"),
+];
+
+static CHOICES: [Given; 14] = [
     ("selected('a b', 'a')", "'a~b 'a selected/2", "truth true"),
     (
         "selected('a b', 'ab')",
@@ -217,6 +237,9 @@ static VALUES: [(&str, &str, &str); 160] = [
         "number 2",
     ),
     ("count-selected(/data/c)", "#2 count-selected/1", "number 0"),
+];
+
+static TEXTS: [Given; 22] = [
     ("string-length('oak')", "'oak string-length/1", "number 3"),
     ("string-length('')", "' string-length/1", "number 0"),
     (
@@ -275,6 +298,9 @@ static VALUES: [(&str, &str, &str); 160] = [
     ),
     ("coalesce(0, 'b')", "0 'b coalesce/2", "words 0"),
     ("coalesce('', 5)", "' 5 coalesce/2", "words 5"),
+];
+
+static INNER: [Given; 9] = [
     (
         "instance('kinds')/root/item[name = 'oak']/label",
         "@name 'oak = kinds:label",
@@ -322,8 +348,7 @@ static VALUES: [(&str, &str, &str); 160] = [
     ),
 ];
 
-// The same with an outer table.
-static OUTER_VALUES: [(&str, &str, &str); 10] = [
+static OUTER: [Given; 10] = [
     (
         "instance('trees')/root/item[name = 't2']/girth",
         "@name 't2 = trees:girth",
@@ -486,26 +511,75 @@ fn given(alloc: Global, form: &FormDef, tables: &OneList, expr: &str) -> Result<
     spelled(alloc, &value)
 }
 
-#[test]
-fn expressions_have_their_values(rt: HostRuntime) -> Result<(), Fail> {
-    let alloc = rt.alloc();
+/// The spelling of the first expression that has another value, and that value.
+fn first_wrong(alloc: Global, rows: &[Given]) -> Result<Option<String>, Fail> {
     let form = form(alloc)?;
     let tables = lists(alloc)?;
-    for (spelling, expr, value) in &VALUES {
+    for (spelling, expr, value) in rows {
         let got = given(alloc, &form, &tables, expr)?;
-        assert_eq!(rt; got.as_str(), *value, "{spelling}");
+        if got.as_str() != *value {
+            return Ok(Some(format!(in alloc; "{spelling} is {}", got.as_str())?));
+        }
     }
+    Ok(None)
+}
+
+#[test]
+fn operands_read_their_fields(rt: HostRuntime) -> Result<(), Fail> {
+    assert_eq!(rt; first_wrong(rt.alloc(), &OPERANDS)?, None);
     Ok(())
 }
 
 #[test]
-fn expressions_look_up_in_lists(rt: HostRuntime) -> Result<(), Fail> {
-    let alloc = rt.alloc();
-    let form = form(alloc)?;
-    let tables = lists(alloc)?;
-    for (spelling, expr, value) in &OUTER_VALUES {
-        let got = given(alloc, &form, &tables, expr)?;
-        assert_eq!(rt; got.as_str(), *value, "{spelling}");
-    }
+fn equality_compares_by_kind(rt: HostRuntime) -> Result<(), Fail> {
+    assert_eq!(rt; first_wrong(rt.alloc(), &EQUALITIES)?, None);
+    Ok(())
+}
+
+#[test]
+fn order_compares_numbers(rt: HostRuntime) -> Result<(), Fail> {
+    assert_eq!(rt; first_wrong(rt.alloc(), &ORDERS)?, None);
+    Ok(())
+}
+
+#[test]
+fn logic_takes_truths(rt: HostRuntime) -> Result<(), Fail> {
+    assert_eq!(rt; first_wrong(rt.alloc(), &LOGIC)?, None);
+    Ok(())
+}
+
+#[test]
+fn arithmetic_takes_numbers(rt: HostRuntime) -> Result<(), Fail> {
+    assert_eq!(rt; first_wrong(rt.alloc(), &ARITHMETIC)?, None);
+    Ok(())
+}
+
+#[test]
+fn numbers_have_bounds(rt: HostRuntime) -> Result<(), Fail> {
+    assert_eq!(rt; first_wrong(rt.alloc(), &BOUNDS)?, None);
+    Ok(())
+}
+
+#[test]
+fn choices_are_cut_at_spaces(rt: HostRuntime) -> Result<(), Fail> {
+    assert_eq!(rt; first_wrong(rt.alloc(), &CHOICES)?, None);
+    Ok(())
+}
+
+#[test]
+fn texts_are_joined_and_counted(rt: HostRuntime) -> Result<(), Fail> {
+    assert_eq!(rt; first_wrong(rt.alloc(), &TEXTS)?, None);
+    Ok(())
+}
+
+#[test]
+fn tables_of_the_form_are_looked_up(rt: HostRuntime) -> Result<(), Fail> {
+    assert_eq!(rt; first_wrong(rt.alloc(), &INNER)?, None);
+    Ok(())
+}
+
+#[test]
+fn lists_are_looked_up(rt: HostRuntime) -> Result<(), Fail> {
+    assert_eq!(rt; first_wrong(rt.alloc(), &OUTER)?, None);
     Ok(())
 }

@@ -78,14 +78,11 @@ fn pair(alloc: Global, stack: &mut Vec<Expr>, op: Op) -> Result<Expr, Fail> {
 
 fn call(alloc: Global, stack: &mut Vec<Expr>, name: &str, count: &str) -> Result<Expr, Fail> {
     let func = func_of(name).ok_or("a function")?;
-    let mut turned = Vec::new(alloc);
+    let mut args = Vec::new(alloc);
     for _ in 0..count.parse::<u32>()? {
-        turned.push(stack.pop().ok_or("an argument")?)?;
+        args.insert(0, stack.pop().ok_or("an argument")?)?;
     }
-    let mut args = Items::new(alloc);
-    while let Some(arg) = turned.pop() {
-        args.push(arg)?;
-    }
+    let args = Items::from_vec(args);
     Ok(Expr::Call { func, args })
 }
 

@@ -1,4 +1,5 @@
-ghost use Rattle.std.specs.Prelude.{map, [], ◌∷◌};
+ghost use Rattle.std.specs.Prelude.{◌≡◌, map, [], ◌∷◌};
+ghost use Rattle.std.specs.Str.{bytes_eq};
 
 use crate::rows::inner_cell;
 use field_text::{Items, NoMemory, Tables, Text};
@@ -13,11 +14,19 @@ pub struct OneList {
     pub rows: Items<Items<Cell>>,
 }
 
+impl OneList {
+    fn is_named(&self, list: &Text) -> bool
+        ensures { result ≡ bytes_eq self.now.name list.now }
+    {
+        self.name.bytes() == list.bytes()
+    }
+}
+
 impl Tables for OneList {
     ghost tables = { λ list. record { name = list.name; rows = map (map (λ cell. record { column = cell.column; text = cell.value })) list.rows } ∷ [] };
 
     fn rows(&self, list: &Text) -> u64 {
-        if self.name.bytes() == list.bytes() {
+        if self.is_named(list) {
             self.rows.len() as u64
         } else {
             0
@@ -25,7 +34,7 @@ impl Tables for OneList {
     }
 
     fn cell(&self, alloc: Global, list: &Text, row: u64, column: &Text) -> Result<Text, NoMemory> {
-        if self.name.bytes() != list.bytes() {
+        if !self.is_named(list) {
             return Ok(Text::from_string(String::new(alloc)));
         }
         match self.rows.get(row as usize) {
