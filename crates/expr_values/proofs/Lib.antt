@@ -1,0 +1,6 @@
+pub mod DigitLemmas
+pub mod PieceLemmas
+pub mod ValueLemmas
+pub mod LookUpLemmas
+pub mod DependsLemmas
+pub mod TestLemmas

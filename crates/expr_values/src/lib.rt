@@ -1,0 +1,22 @@
+//! Values of expressions (XPath 1.0 in a profile).
+#![tactic(auto)]
+
+mod digits;
+mod evaluation;
+mod functions;
+mod offering;
+mod operators;
+mod pieces;
+mod rows;
+#[cfg(test)]
+mod tests;
+mod value;
+
+pub use digits::is_whole;
+pub use evaluation::{Scope, evaluate, holds, read_text};
+pub use functions::{call, is_selected};
+pub use offering::offers;
+pub use operators::{negative, pair};
+pub use pieces::split_piece;
+pub use rows::Row;
+pub use value::Value;

@@ -1,0 +1,5 @@
+pub mod Placed
+pub mod Agreement
+pub mod Making
+pub mod Unique
+pub mod QuestionLemmas

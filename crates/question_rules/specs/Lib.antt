@@ -1,0 +1,6 @@
+pub mod Fields
+pub mod Shown
+pub mod Settled
+pub mod Along
+pub mod Answers
+pub mod Faults

@@ -1,0 +1,18 @@
+//! Questions of a form: which are shown, what is calculated, which answers are taken, and what a sheet lacks.
+#![tactic(auto)]
+
+mod answers;
+mod faults;
+mod laws;
+mod marks;
+mod settling;
+mod sheet;
+#[cfg(test)]
+mod tests;
+
+pub use answers::{AnswerRefused, fill};
+pub use faults::{Cause, Fault, first_fault};
+pub use laws::{marks_are_unique, settled_texts_are_unique};
+pub use marks::{read_field, shown, shown_marks};
+pub use settling::settle;
+pub use sheet::Sheet;
