@@ -2,7 +2,6 @@
 use Rattle.std.specs.Prelude.{ℕ, ◌≡◌, Bool, true, false, ◌&&◌, List, [], ◌∷◌, ◌++◌, map, find, refl}
 use Rattle.std.specs.List.{list_all, concat}
 use Rattle.std.proofs.Common.{ap, sym, ◌∙◌, subst}
-use Rattle.std.proofs.lemmas.List.Folds.{list_all-append}
 use Rattle.form_def.specs.declared.expr.Expr.{Expr, fold-Expr, fold-roll-Expr, ind-Expr, roll-Expr, map-Expr}
 use Rattle.form_def.specs.declared.expr.Expr.TheOpen.{Expr-F}
 use Rattle.form_def.specs.Reads.{reads, reads_with_parts}
@@ -12,7 +11,7 @@ use Rattle.expr_values.specs.Operators.{negative, paired}
 use Rattle.expr_values.specs.Functions.{called}
 use Rattle.expr_values.specs.Rows.{Columns}
 use Rattle.expr_values.specs.Evaluation.{Surroundings, value_with_parts, value_in, looked_up}
-use Rattle.expr_values.proofs.DigitLemmas.{and-first, and-second}
+use Rattle.expr_values.proofs.Truths.{and-first, all-first, all-second}
 
 abbrev pub with_fields : (ℕ → List ℕ) → (List ℕ → List Columns) → ℕ → Surroundings
 with_fields f rows own = record { fields = f; rows = rows; own = own }
@@ -26,12 +25,6 @@ value_roll s x = fold-roll-Expr (Columns → Value) (value_with_parts s) x
 
 reads_roll : (own : ℕ) (ok : ℕ → Bool) (x : Expr-F Expr) → list_all ok (reads own (roll-Expr x)) ≡ true → list_all ok (reads_with_parts own (map-Expr Expr (List ℕ) (reads own) x)) ≡ true
 reads_roll own ok x h = ap (list_all ok) (sym (fold-roll-Expr (List ℕ) (reads_with_parts own) x)) ∙ h
-
-all-first : (ok : ℕ → Bool) (xs ys : List ℕ) → list_all ok (xs ++ ys) ≡ true → list_all ok xs ≡ true
-all-first ok xs ys h = and-first (list_all ok xs) (list_all ok ys) (sym (list_all-append ok xs ys) ∙ h)
-
-all-second : (ok : ℕ → Bool) (xs ys : List ℕ) → list_all ok (xs ++ ys) ≡ true → list_all ok ys ≡ true
-all-second ok xs ys h = and-second (list_all ok xs) (list_all ok ys) (sym (list_all-append ok xs ys) ∙ h)
 
 same_args : (f g : ℕ → List ℕ) (rows : List ℕ → List Columns) (own : ℕ) (ok : ℕ → Bool) (E : Type 0) (at : E → Expr) → ((e : E) → IsSame f g rows own ok (at e))
     → (args : List E) → list_all ok (concat (map (reads own) (map at args))) ≡ true

@@ -1,3 +1,5 @@
+pub mod Truths
+pub mod Positions
 pub mod DigitLemmas
 pub mod PieceLemmas
 pub mod ValueLemmas

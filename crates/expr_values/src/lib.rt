@@ -14,9 +14,8 @@ mod value;
 
 pub use digits::is_whole;
 pub use evaluation::{Scope, evaluate, holds, read_text};
-pub use functions::{call, is_selected};
+pub use functions::is_selected;
 pub use offering::offers;
-pub use operators::{negative, pair};
 pub use pieces::split_piece;
 pub use rows::Row;
 pub use value::Value;

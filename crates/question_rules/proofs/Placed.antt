@@ -7,7 +7,7 @@ use Rattle.std.proofs.lemmas.Bool.{false≢true}
 use Rattle.form_def.specs.declared.field.Field.{Field}
 use Rattle.form_def.specs.Order.{is_among, is_marked, may_come, are_ordered, is_order, dependencies_at}
 use Rattle.form_def.proofs.FieldLemmas.{is_marked-set, may_come_within}
-use Rattle.expr_values.proofs.DigitLemmas.{and-first, and-second}
+use Rattle.expr_values.proofs.Truths.{and-first, and-second, not-true}
 
 -- the numbers that are placed once these come behind those
 abbrev pub placed_after : List ℕ → List ℕ → List ℕ
@@ -56,13 +56,9 @@ unmarked_count (suc count) = unmarked_count count
 none_placed : (count : ℕ) → Placing count []
 none_placed count = record { marks = replicate count false; long = length-replicate count false; same = unmarked_at count; counted = unmarked_count count }
 
-not_true : (b : Bool) → not b ≡ true → b ≡ false
-not_true true e = absurd (false≢true e)
-not_true false e = refl
-
 -- what `may_come` says
 pub is_new : (fields : List Field) (placed : List ℕ) (number : ℕ) → may_come fields (is_among placed) number ≡ true → is_among placed number ≡ false
-is_new fields placed number may = not_true (is_among placed number) (and-second (nat_lt number (length fields)) (not (is_among placed number))
+is_new fields placed number may = not-true (is_among placed number) (and-second (nat_lt number (length fields)) (not (is_among placed number))
     (and-first (nat_lt number (length fields) && not (is_among placed number)) (list_all (is_among placed) (dependencies_at fields number)) may))
 
 pub has_before : (fields : List Field) (placed : List ℕ) (number : ℕ) → may_come fields (is_among placed) number ≡ true → list_all (is_among placed) (dependencies_at fields number) ≡ true

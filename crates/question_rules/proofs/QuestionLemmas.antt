@@ -3,41 +3,24 @@ use Rattle.std.specs.Prelude.{ℕ, ◌+◌, ◌<◌, ◌≤◌, ◌≡◌, ◌�
 use Rattle.std.specs.List.{position_or_len, prefix_len}
 use Rattle.std.specs.Str.{bytes_eq}
 use Rattle.std.proofs.Common.{ap, sym, ◌∙◌, subst, arith, ltb-true, get_or, ◌⊎◌, inl, inr}
-use Rattle.std.proofs.lemmas.Bool.{false≢true, ltb-false, cases_lt}
-use Rattle.std.proofs.lemmas.List.Sums.{prefix_len_passes, prefix_len_stops}
+use Rattle.std.proofs.lemmas.Bool.{false≢true, cases_lt}
+use Rattle.std.proofs.lemmas.List.Sums.{prefix_len_stops}
 use Rattle.std.proofs.lemmas.Option.{get_or_from_slice_get, slice_get_within, slice_get_cases}
 use Rattle.std.proofs.lemmas.Slice.Eq.{bytes_eq-Decides}
 use Rattle.field_text.specs.Tables.{NamedTable}
 use Rattle.form_def.specs.declared.field.Field.{Field}
 use Rattle.form_def.specs.declared.form.FormDef.{FormDef}
 use Rattle.form_def.specs.Fields.{PathsDiffer}
+use Rattle.expr_values.proofs.Truths.{not-false}
+use Rattle.expr_values.proofs.Positions.{found_at, fails_at}
 use Rattle.question_rules.specs.declared.answers.AnswerRefused.{AnswerRefused}
 use Rattle.question_rules.specs.declared.answers.AnswerRefused.TheVariants.{NoQuestion, NotRelevant, ReadOnly, NotWhole, NotAChoice, TooLong, BadChar, NoMemory}
 use Rattle.question_rules.specs.Answers.{is_question, bad_char, LacksQuestion, IsRefusal, Judges, Refuses}
 
-some_at : (fields : List Field) (path : List ℕ) (place : ℕ) (b : Bool) → nat_lt (position_or_len (λ f. bytes_eq f.path path) fields) (length fields) ≡ b
-    → Some place ≡ cond b (Some (position_or_len (λ f. bytes_eq f.path path) fields)) None
-    → (position_or_len (λ f. bytes_eq f.path path) fields < length fields) × (place ≡ position_or_len (λ f. bytes_eq f.path path) fields)
-some_at fields path place true e h = (ltb-true _ _ e, cc)
-some_at fields path place false e h = absurd cc
-
-none_at : (fields : List Field) (path : List ℕ) (b : Bool) → nat_lt (position_or_len (λ f. bytes_eq f.path path) fields) (length fields) ≡ b
-    → None ≡ cond b (Some (position_or_len (λ f. bytes_eq f.path path) fields)) None → length fields ≤ position_or_len (λ f. bytes_eq f.path path) fields
-none_at fields path true e h = absurd cc
-none_at fields path false e h = ltb-false _ _ e
-
-not-false : (b : Bool) → not b ≡ false → b ≡ true
-not-false true e = refl
-not-false false e = absurd (false≢true (sym e))
-
-not-true : (b : Bool) → not b ≡ true → b ≡ false
-not-true true e = absurd (false≢true e)
-not-true false e = refl
-
 -- the field at the position found has the path
 pub has_path : (fields : List Field) (path : List ℕ) (number : ℕ) (field : Field) → Some number ≡ position (λ f. bytes_eq f.path path) fields → slice_get fields number ≡ Some field → field.path ≡ path
 has_path fields path number field found at =
-    let place = some_at fields path number _ refl found in
+    let place = found_at (λ f. bytes_eq f.path path) fields number found in
     let here : get_or fields number field ≡ field = get_or_from_slice_get fields number field field at in
     let passes = prefix_len_stops (λ f. not (bytes_eq f.path path)) fields field place.0 in
     let e : bytes_eq field.path path ≡ true =
@@ -46,18 +29,15 @@ has_path fields path number field found at =
 
 pub within_fields : (fields : List Field) (path : List ℕ) (number : ℕ) → Some number ≡ position (λ f. bytes_eq f.path path) fields → slice_get fields number ≡ None → ⊥
 within_fields fields path number found none =
-    let place = some_at fields path number _ refl found in
+    let place = found_at (λ f. bytes_eq f.path path) fields number found in
     let is : number ≡ position_or_len (λ f. bytes_eq f.path path) fields = place.1 in
     let low : position_or_len (λ f. bytes_eq f.path path) fields < length fields = place.0 in
     elim (slice_get_cases fields number).1 [ inl h ↦ let e : Some h.0 ≡ None = sym h.2 ∙ none in cc | inr h ↦ omega (arith, h.0) ]
 
 pub no_path : (form : FormDef) (path : List ℕ) → None ≡ position (λ f. bytes_eq f.path path) form.fields → LacksQuestion form path
 no_path form path none number field at same =
-    let far : length form.fields ≤ position_or_len (λ f. bytes_eq f.path path) form.fields = none_at form.fields path _ refl none in
-    let within : number < length form.fields = slice_get_within form.fields number field at in
-    let passes : not (bytes_eq (get_or form.fields number field).path path) ≡ true = prefix_len_passes (λ f. not (bytes_eq f.path path)) form.fields number field (omega arith) in
-    let here : get_or form.fields number field ≡ field = get_or_from_slice_get form.fields number field field at in
-    let off : bytes_eq field.path path ≡ false = not-true (bytes_eq field.path path) (ap (λ f. not (bytes_eq f.path path)) (sym here) ∙ passes) in
+    let fails = fails_at (λ f. bytes_eq f.path path) form.fields none number field (slice_get_within form.fields number field at) in
+    let off : bytes_eq field.path path ≡ false = ap (λ f. bytes_eq f.path path) (sym (get_or_from_slice_get form.fields number field field at)) ∙ fails in
     absurd (false≢true (sym off ∙ (bytes_eq-Decides field.path path).1 same))
 
 path_at : (fields : List Field) (number : ℕ) (d field : Field) → slice_get fields number ≡ Some field → (get_or fields number d).path ≡ field.path

@@ -11,7 +11,7 @@ use Rattle.form_def.specs.declared.field.Field.{Field}
 use Rattle.form_def.specs.declared.form.FormDef.{FormDef}
 use Rattle.form_def.specs.Order.{is_among, is_marked, may_come, are_ordered, dependencies_at}
 use Rattle.form_def.proofs.FieldLemmas.{may_come_within}
-use Rattle.expr_values.proofs.DigitLemmas.{and-first, and-second}
+use Rattle.expr_values.proofs.Truths.{and-first, and-second}
 use Rattle.question_rules.specs.Fields.{text_at}
 use Rattle.question_rules.specs.Shown.{is_shown_by, IsShown}
 use Rattle.question_rules.specs.Settled.{text_by, IsSettledWith, IsSettled}

@@ -5,6 +5,7 @@ use Rattle.form_def.specs.declared.field.Field.{Field}
 use Rattle.form_def.specs.declared.form.FormDef.{FormDef}
 use Rattle.form_def.specs.Fields.{parent_of}
 use Rattle.form_def.specs.Order.{is_marked}
+use Rattle.expr_values.specs.Evaluation.{text_read}
 use Rattle.question_rules.specs.Fields.{holds_or}
 
 abbrev pub is_parent_shown : List Bool → Option ℕ → Bool
@@ -22,3 +23,7 @@ IsShown form tables texts marks = (length marks ≡ length form.fields)
 -- whether the field of a number is shown
 abbrev pub IsShownAt : FormDef → List NamedTable → List (List ℕ) → ℕ → Bool → Type 0
 IsShownAt form tables texts number shown = (marks : List Bool) × IsShown form tables texts marks × (shown ≡ is_marked marks number)
+
+-- the text of the field of a number as expressions read it
+abbrev pub ReadsAs : FormDef → List NamedTable → List (List ℕ) → ℕ → List ℕ → Type 0
+ReadsAs form tables texts number text = (marks : List Bool) × IsShown form tables texts marks × (text ≡ text_read texts marks number)

@@ -4,7 +4,7 @@ ghost use Rattle.form_def.specs.Fields.{parent_of};
 ghost use Rattle.form_def.specs.Order.{is_marked as marked};
 ghost use Rattle.expr_values.specs.Evaluation.{text_read};
 ghost use Rattle.question_rules.specs.Fields.{holds_or as expression_holds_or, text_at};
-ghost use Rattle.question_rules.specs.Shown.{is_parent_shown as parent_shown, IsShown, IsShownAt};
+ghost use Rattle.question_rules.specs.Shown.{is_parent_shown as parent_shown, IsShown, IsShownAt, ReadsAs};
 ghost use Rattle.question_rules.specs.Along.{mark_at as mark_of, marked_along, unmarked, shown_marks as marks_of};
 
 use crate::sheet::Sheet;
@@ -146,7 +146,8 @@ pub fn read_field<T: Tables>(
 ) -> Result<Text, NoMemory>
     requires sheet { length sheet.now ≡ length form.now.fields }
     requires within { field < length form.now.fields }
-    ensures { IfOk result (λ text. text ≡ text_read sheet.now (marks_of form.now (T.tables tables.now) sheet.now) field) }
+    ensures reads { IfOk result (λ text. ReadsAs form.now (T.tables tables.now) sheet.now field text) }
+    ensures text { IfOk result (λ text. text ≡ text_read sheet.now (marks_of form.now (T.tables tables.now) sheet.now) field) }
 {
     let marks = shown_marks(alloc, form, sheet, tables)?;
     read_text(alloc, sheet.texts(), marks.as_slice(), field)

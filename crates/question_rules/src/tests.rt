@@ -1,12 +1,12 @@
 mod survey;
 
 use crate::tests::survey::{
-    NoTables, call, field_is, fixed, form, kinds, name_is_selected, one_more, question, survey,
+    NoTables, call, field_is, fixed, form, kind, kinds, name_is_selected, next, question, survey,
     text,
 };
 use crate::*;
 use field_text::{Items, Text};
-use form_def::{Choices, Field, FormDef, Func, Kind};
+use form_def::{Field, FormDef, Func, Kind};
 use std::alloc::Global;
 use std::test::Fail;
 
@@ -17,30 +17,50 @@ fn begun(alloc: Global, form: &FormDef) -> Result<Sheet, Fail> {
     Ok(sheet)
 }
 
-/// Answers the question of a path, and says what was refused.
+/// Answers the question of a path, and tells what was refused.
 fn answer(
     alloc: Global,
     form: &FormDef,
     sheet: &mut Sheet,
     path: &str,
     value: &str,
-) -> Result<Option<AnswerRefused>, Fail> {
+) -> Result<String, Fail> {
     let path = text(alloc, path)?;
     let value = text(alloc, value)?;
     if sheet.texts().len() != form.fields.len() {
         return Err("another number of texts")?;
     }
     match fill(alloc, form, sheet, &NoTables, &path, &value) {
-        Ok(()) => Ok(None),
-        Err(why) => Ok(Some(why)),
+        Ok(()) => Ok(format!(in alloc; "taken")?),
+        Err(why) => Ok(format!(in alloc; "{why:?}")?),
     }
 }
 
-fn fault(alloc: Global, form: &FormDef, sheet: &Sheet) -> Result<Option<Fault>, Fail> {
+/// The cause and the path of the first fault.
+fn fault(alloc: Global, form: &FormDef, sheet: &Sheet) -> Result<String, Fail> {
     if sheet.texts().len() != form.fields.len() {
         return Err("another number of texts")?;
     }
-    Ok(first_fault(alloc, form, sheet, &NoTables)?)
+    match first_fault(alloc, form, sheet, &NoTables)? {
+        Some(fault) => Ok(format!(in alloc; "{:?} {}", fault.cause, fault.path.as_str())?),
+        None => Ok(format!(in alloc; "none")?),
+    }
+}
+
+/// Gives these answers one after the other, and tells the first of which another thing came than is said there.
+fn first_wrong(
+    alloc: Global,
+    form: &FormDef,
+    sheet: &mut Sheet,
+    answers: &[(&'static str, &'static str, &'static str)],
+) -> Result<Option<String>, Fail> {
+    for (path, value, want) in answers {
+        let got = answer(alloc, form, sheet, path, value)?;
+        if got.as_str() != *want {
+            return Ok(Some(format!(in alloc; "{path} {value}: {}", got.as_str())?));
+        }
+    }
+    Ok(None)
 }
 
 /// A text of a sheet.
@@ -77,13 +97,13 @@ fn the_survey_settles(rt: HostRuntime) -> Result<(), Fail> {
     assert_eq!(rt; text_of(&sheet, 9)?, " ");
     let copy = sheet.copy(alloc)?;
     assert_eq!(rt;
-        answer(alloc, &form, &mut sheet, "/data/plot/age", "12")?,
-        None
+        answer(alloc, &form, &mut sheet, "/data/plot/age", "12")?.as_str(),
+        "taken"
     );
     assert_eq!(rt; text_of(&sheet, 6)?, "13");
     assert_eq!(rt;
-        answer(alloc, &form, &mut sheet, "/data/plot/age", "999999999")?,
-        None
+        answer(alloc, &form, &mut sheet, "/data/plot/age", "999999999")?.as_str(),
+        "taken"
     );
     assert_eq!(rt; text_of(&sheet, 6)?, "1000000000");
     assert_eq!(rt; text_of(&copy, 6)?, "");
@@ -91,49 +111,33 @@ fn the_survey_settles(rt: HostRuntime) -> Result<(), Fail> {
 }
 
 // Paths, answers given one after the other, and what is refused.
-static ANSWERS: [(&str, &str, Option<AnswerRefused>); 26] = [
-    ("/data/plot/age", "999999999", None),
-    (
-        "/data/plot/age",
-        "1000000000",
-        Some(AnswerRefused::NotWhole),
-    ),
-    ("/data/plot/age", "+5", Some(AnswerRefused::NotWhole)),
-    ("/data/plot/age", " 5", Some(AnswerRefused::NotWhole)),
-    ("/data/plot/age", "1.5", Some(AnswerRefused::NotWhole)),
-    ("/data/plot/age", "-", Some(AnswerRefused::NotWhole)),
-    ("/data/plot/age", "-999999999", None),
-    ("/data/plot/age", "", None),
-    ("/data/species", "elm", Some(AnswerRefused::NotAChoice)),
-    ("/data/species", "oak fir", Some(AnswerRefused::NotAChoice)),
-    ("/data/species", "fir", None),
-    ("/data/species", "", None),
-    ("/data/dead", "maybe", Some(AnswerRefused::NotAChoice)),
-    ("/data/zz", "x", Some(AnswerRefused::NoQuestion)),
-    ("/data/plot", "x", Some(AnswerRefused::NoQuestion)),
-    ("/data/next_age", "7", Some(AnswerRefused::NoQuestion)),
-    (
-        "/data/meta/entity/label",
-        "x",
-        Some(AnswerRefused::NoQuestion),
-    ),
-    ("/data/cause", "storm", Some(AnswerRefused::NotRelevant)),
-    ("/data/dead", "yes", None),
-    ("/data/cause", "storm", None),
-    ("/data/dead", "", None),
-    ("/data/cause", "", Some(AnswerRefused::NotRelevant)),
-    (
-        "/data/plot/name",
-        "a\u{1}",
-        Some(AnswerRefused::BadChar { at: 1 }),
-    ),
-    (
-        "/data/plot/name",
-        "\u{E9}\u{FFFE}",
-        Some(AnswerRefused::BadChar { at: 2 }),
-    ),
-    ("/data/plot/name", "a\r\n\u{E9}", None),
-    ("/data/plot/name", "", None),
+static ANSWERS: [(&str, &str, &str); 26] = [
+    ("/data/plot/age", "999999999", "taken"),
+    ("/data/plot/age", "1000000000", "NotWhole"),
+    ("/data/plot/age", "+5", "NotWhole"),
+    ("/data/plot/age", " 5", "NotWhole"),
+    ("/data/plot/age", "1.5", "NotWhole"),
+    ("/data/plot/age", "-", "NotWhole"),
+    ("/data/plot/age", "-999999999", "taken"),
+    ("/data/plot/age", "", "taken"),
+    ("/data/species", "elm", "NotAChoice"),
+    ("/data/species", "oak fir", "NotAChoice"),
+    ("/data/species", "fir", "taken"),
+    ("/data/species", "", "taken"),
+    ("/data/dead", "maybe", "NotAChoice"),
+    ("/data/zz", "x", "NoQuestion"),
+    ("/data/plot", "x", "NoQuestion"),
+    ("/data/next_age", "7", "NoQuestion"),
+    ("/data/meta/entity/label", "x", "NoQuestion"),
+    ("/data/cause", "storm", "NotRelevant"),
+    ("/data/dead", "yes", "taken"),
+    ("/data/cause", "storm", "taken"),
+    ("/data/dead", "", "taken"),
+    ("/data/cause", "", "NotRelevant"),
+    ("/data/plot/name", "a\u{1}", "BadChar { at: 1 }"),
+    ("/data/plot/name", "\u{E9}\u{FFFE}", "BadChar { at: 2 }"),
+    ("/data/plot/name", "a\r\n\u{E9}", "taken"),
+    ("/data/plot/name", "", "taken"),
 ];
 
 #[test]
@@ -141,10 +145,7 @@ fn answers_are_taken_or_refused(rt: HostRuntime) -> Result<(), Fail> {
     let alloc = rt.alloc();
     let form = survey(alloc)?;
     let mut sheet = begun(alloc, &form)?;
-    for (path, value, want) in &ANSWERS {
-        let got = answer(alloc, &form, &mut sheet, path, value)?;
-        assert_eq!(rt; got, *want, "{path} {value}");
-    }
+    assert_eq!(rt; first_wrong(alloc, &form, &mut sheet, &ANSWERS)?, None);
     assert_eq!(rt; text_of(&sheet, 2)?, "");
     assert_eq!(rt; text_of(&sheet, 5)?, "storm");
     Ok(())
@@ -161,34 +162,26 @@ fn long_answers_are_refused(rt: HostRuntime) -> Result<(), Fail> {
     }
     let path = "/data/plot/name";
     assert_eq!(rt;
-        answer(alloc, &form, &mut sheet, path, long.as_str())?,
-        None
+        answer(alloc, &form, &mut sheet, path, long.as_str())?.as_str(),
+        "taken"
     );
     long.push('\u{1}')?;
     let got = answer(alloc, &form, &mut sheet, path, long.as_str())?;
-    assert_eq!(rt; got, Some(AnswerRefused::TooLong));
+    assert_eq!(rt; got.as_str(), "TooLong");
     let got = answer(alloc, &form, &mut sheet, "/data/plot/age", long.as_str())?;
-    assert_eq!(rt; got, Some(AnswerRefused::NotWhole));
+    assert_eq!(rt; got.as_str(), "NotWhole");
     assert_eq!(rt; text_of(&sheet, 1)?.len(), 2_000);
     Ok(())
 }
 
 // Answers one after the other, and the first fault behind each.
-static FAULTS: [(&str, &str, Option<(&str, Cause)>); 6] = [
-    (
-        "/data/plot/age",
-        "-1",
-        Some(("/data/plot/name", Cause::Required)),
-    ),
-    (
-        "/data/plot/name",
-        "a",
-        Some(("/data/plot/age", Cause::Constraint)),
-    ),
-    ("/data/plot/age", "", None),
-    ("/data/dead", "yes", Some(("/data/cause", Cause::Required))),
-    ("/data/cause", "storm", None),
-    ("/data/plot/age", "0", None),
+static FAULTS: [(&str, &str, &str); 6] = [
+    ("/data/plot/age", "-1", "Required /data/plot/name"),
+    ("/data/plot/name", "a", "Constraint /data/plot/age"),
+    ("/data/plot/age", "", "none"),
+    ("/data/dead", "yes", "Required /data/cause"),
+    ("/data/cause", "storm", "none"),
+    ("/data/plot/age", "0", "none"),
 ];
 
 #[test]
@@ -196,54 +189,61 @@ fn the_first_fault_is_told(rt: HostRuntime) -> Result<(), Fail> {
     let alloc = rt.alloc();
     let form = survey(alloc)?;
     let mut sheet = begun(alloc, &form)?;
+    assert_eq!(rt;
+        fault(alloc, &form, &sheet)?.as_str(),
+        "Required /data/plot/name"
+    );
     for (path, value, want) in &FAULTS {
-        assert_eq!(rt; answer(alloc, &form, &mut sheet, path, value)?, None);
-        match fault(alloc, &form, &sheet)? {
-            Some(fault) => {
-                assert_eq!(rt; Some((fault.path.as_str(), fault.cause)), *want, "{path}")
-            }
-            None => assert!(rt; want.is_none(), "{path}"),
-        }
+        let got = answer(alloc, &form, &mut sheet, path, value)?;
+        assert_eq!(rt; got.as_str(), "taken", "{path} {value}");
+        assert_eq!(rt;
+            fault(alloc, &form, &sheet)?.as_str(),
+            *want,
+            "{path} {value}"
+        );
     }
     Ok(())
 }
 
-/// A text that hides or locks, any number of three choices, one kind of those chosen, and a group that is hidden too.
-fn picking(alloc: Global) -> Result<FormDef, Fail> {
-    let mut fields = Items::new(alloc);
-    fields.push(question(alloc, "/data/word", Kind::Words)?)?;
+fn many(alloc: Global) -> Result<Field, Fail> {
     let mut many = question(alloc, "/data/many", Kind::Many)?;
     many.choices = fixed(alloc, &["a", "b", "c"])?;
     many.relevant = Some(field_is(alloc, 0, "lock")?);
-    fields.push(many)?;
-    let mut kind = question(alloc, "/data/kind", Kind::One)?;
-    kind.choices = Choices::Rows {
-        table: text(alloc, "kinds")?,
-        filter: Some(name_is_selected(alloc, 1)?),
-        value: text(alloc, "name")?,
-    };
+    Ok(many)
+}
+
+fn one_of_many(alloc: Global) -> Result<Field, Fail> {
+    let mut kind = kind(alloc, "/data/kind", Some(name_is_selected(alloc, 1)?))?;
     kind.readonly = Some(field_is(alloc, 0, "")?);
-    fields.push(kind)?;
+    Ok(kind)
+}
+
+/// A word, any number of three choices that are shown where it is `lock`, and one kind of those chosen, which the word unlocks.
+fn picking(alloc: Global) -> Result<FormDef, Fail> {
+    let mut fields = Items::new(alloc);
+    fields.push(question(alloc, "/data/word", Kind::Words)?)?;
+    fields.push(many(alloc)?)?;
+    fields.push(one_of_many(alloc)?)?;
     form(alloc, fields, kinds(alloc, &["b", "d"])?, &[0, 2, 1])
 }
 
-static PICKS: [(&str, &str, Option<AnswerRefused>); 16] = [
-    ("/data/many", "a", Some(AnswerRefused::NotRelevant)),
-    ("/data/kind", "b", Some(AnswerRefused::ReadOnly)),
-    ("/data/kind", "", Some(AnswerRefused::ReadOnly)),
-    ("/data/word", "lock", None),
-    ("/data/many", "a a", Some(AnswerRefused::NotAChoice)),
-    ("/data/many", "a  b", Some(AnswerRefused::NotAChoice)),
-    ("/data/many", " a", Some(AnswerRefused::NotAChoice)),
-    ("/data/many", "a ", Some(AnswerRefused::NotAChoice)),
-    ("/data/many", "a d", Some(AnswerRefused::NotAChoice)),
-    ("/data/many", "c a", None),
-    ("/data/kind", "b", Some(AnswerRefused::NotAChoice)),
-    ("/data/many", "c b", None),
-    ("/data/kind", "b", None),
-    ("/data/kind", "d", Some(AnswerRefused::NotAChoice)),
-    ("/data/word", "open", None),
-    ("/data/kind", "b", Some(AnswerRefused::NotAChoice)),
+static PICKS: [(&str, &str, &str); 16] = [
+    ("/data/many", "a", "NotRelevant"),
+    ("/data/kind", "b", "ReadOnly"),
+    ("/data/kind", "", "ReadOnly"),
+    ("/data/word", "lock", "taken"),
+    ("/data/many", "a a", "NotAChoice"),
+    ("/data/many", "a  b", "NotAChoice"),
+    ("/data/many", " a", "NotAChoice"),
+    ("/data/many", "a ", "NotAChoice"),
+    ("/data/many", "a d", "NotAChoice"),
+    ("/data/many", "c a", "taken"),
+    ("/data/kind", "b", "NotAChoice"),
+    ("/data/many", "c b", "taken"),
+    ("/data/kind", "b", "taken"),
+    ("/data/kind", "d", "NotAChoice"),
+    ("/data/word", "open", "taken"),
+    ("/data/kind", "b", "NotAChoice"),
 ];
 
 #[test]
@@ -251,10 +251,7 @@ fn choices_are_tested(rt: HostRuntime) -> Result<(), Fail> {
     let alloc = rt.alloc();
     let form = picking(alloc)?;
     let mut sheet = begun(alloc, &form)?;
-    for (path, value, want) in &PICKS {
-        let got = answer(alloc, &form, &mut sheet, path, value)?;
-        assert_eq!(rt; got, *want, "{path} {value}");
-    }
+    assert_eq!(rt; first_wrong(alloc, &form, &mut sheet, &PICKS)?, None);
     let (shown, read) = reading(alloc, &form, &sheet, 1)?;
     assert!(rt; !shown);
     assert_eq!(rt; read.as_str(), "");
@@ -262,23 +259,19 @@ fn choices_are_tested(rt: HostRuntime) -> Result<(), Fail> {
     Ok(())
 }
 
-fn calculated(alloc: Global, path: &str, number: u64) -> Result<Field, Fail> {
-    let mut field = question(alloc, path, Kind::Plain)?;
-    field.calculate = Some(one_more(alloc, number)?);
-    Ok(field)
-}
-
-/// Four numbers, each one more than the one behind it; the third is never shown.
-fn chain(alloc: Global) -> Result<FormDef, Fail> {
-    let mut fields = Items::new(alloc);
-    fields.push(calculated(alloc, "/data/a", 1)?)?;
-    fields.push(calculated(alloc, "/data/b", 2)?)?;
-    let mut hidden = calculated(alloc, "/data/group/c", 4)?;
-    hidden.path = text(alloc, "/data/group/c")?;
-    fields.push(hidden)?;
+fn hidden_group(alloc: Global) -> Result<Field, Fail> {
     let mut group = question(alloc, "/data/group", Kind::Group)?;
     group.relevant = Some(call(alloc, Func::No));
-    fields.push(group)?;
+    Ok(group)
+}
+
+/// Three numbers, each one more than the next; the third is in a group that is never shown.
+fn chain(alloc: Global) -> Result<FormDef, Fail> {
+    let mut fields = Items::new(alloc);
+    fields.push(next(alloc, "/data/a", 1)?)?;
+    fields.push(next(alloc, "/data/b", 2)?)?;
+    fields.push(next(alloc, "/data/group/c", 4)?)?;
+    fields.push(hidden_group(alloc)?)?;
     fields.push(question(alloc, "/data/d", Kind::Words)?)?;
     form(alloc, fields, kinds(alloc, &[])?, &[4, 3, 2, 1, 0])
 }
@@ -288,7 +281,10 @@ fn hidden_fields_are_calculated_and_read_as_empty(rt: HostRuntime) -> Result<(),
     let alloc = rt.alloc();
     let form = chain(alloc)?;
     let mut sheet = begun(alloc, &form)?;
-    assert_eq!(rt; answer(alloc, &form, &mut sheet, "/data/d", "7")?, None);
+    assert_eq!(rt;
+        answer(alloc, &form, &mut sheet, "/data/d", "7")?.as_str(),
+        "taken"
+    );
     assert_eq!(rt; text_of(&sheet, 2)?, "8");
     assert_eq!(rt; text_of(&sheet, 1)?, "");
     assert_eq!(rt; text_of(&sheet, 0)?, "");

@@ -146,45 +146,83 @@ pub fn form(
     )?)
 }
 
-fn push_questions(alloc: Global, fields: &mut Items<Field>) -> Result<(), Fail> {
-    fields.push(question(alloc, "/data/plot", Kind::Group)?)?;
+fn name(alloc: Global) -> Result<Field, Fail> {
     let mut name = question(alloc, "/data/plot/name", Kind::Words)?;
     name.required = Some(call(alloc, Func::Yes));
-    fields.push(name)?;
+    Ok(name)
+}
+
+fn age(alloc: Global) -> Result<Field, Fail> {
     let mut age = question(alloc, "/data/plot/age", Kind::Whole)?;
     age.constraint = Some(pair(alloc, Op::GreaterEqual, Expr::Own, Expr::Number(0))?);
-    fields.push(age)?;
-    let mut species = question(alloc, "/data/species", Kind::One)?;
-    species.choices = Choices::Rows {
+    Ok(age)
+}
+
+/// A question with the names of the form's table that a filter lets through.
+pub fn kind(alloc: Global, path: &str, filter: Option<Expr>) -> Result<Field, Fail> {
+    let mut kind = question(alloc, path, Kind::One)?;
+    kind.choices = Choices::Rows {
         table: text(alloc, "kinds")?,
-        filter: None,
+        filter,
         value: text(alloc, "name")?,
     };
-    fields.push(species)?;
+    Ok(kind)
+}
+
+fn dead(alloc: Global) -> Result<Field, Fail> {
     let mut dead = question(alloc, "/data/dead", Kind::One)?;
     dead.choices = fixed(alloc, &["yes", "no"])?;
-    fields.push(dead)?;
+    Ok(dead)
+}
+
+fn cause(alloc: Global) -> Result<Field, Fail> {
     let mut cause = question(alloc, "/data/cause", Kind::Words)?;
     cause.relevant = Some(field_is(alloc, 4, "yes")?);
     cause.required = Some(call(alloc, Func::Yes));
-    fields.push(cause)?;
+    Ok(cause)
+}
+
+/// A field that is one more than another.
+pub fn next(alloc: Global, path: &str, number: u64) -> Result<Field, Fail> {
+    let mut next = question(alloc, path, Kind::Plain)?;
+    next.calculate = Some(one_more(alloc, number)?);
+    Ok(next)
+}
+
+fn entity_id(alloc: Global) -> Result<Field, Fail> {
+    let mut id = question(alloc, "/data/meta/entity/@id", Kind::Plain)?;
+    id.readonly = Some(call(alloc, Func::Yes));
+    Ok(id)
+}
+
+fn entity_create(alloc: Global) -> Result<Field, Fail> {
+    let mut create = question(alloc, "/data/meta/entity/@create", Kind::Plain)?;
+    create.initial = text(alloc, "1")?;
+    Ok(create)
+}
+
+fn entity_label(alloc: Global) -> Result<Field, Fail> {
+    let mut entity_label = question(alloc, "/data/meta/entity/label", Kind::Plain)?;
+    entity_label.readonly = Some(call(alloc, Func::Yes));
+    entity_label.calculate = Some(label(alloc)?);
+    Ok(entity_label)
+}
+
+fn push_questions(alloc: Global, fields: &mut Items<Field>) -> Result<(), Fail> {
+    fields.push(question(alloc, "/data/plot", Kind::Group)?)?;
+    fields.push(name(alloc)?)?;
+    fields.push(age(alloc)?)?;
+    fields.push(kind(alloc, "/data/species", None)?)?;
+    fields.push(dead(alloc)?)?;
+    fields.push(cause(alloc)?)?;
     Ok(())
 }
 
 fn push_plain(alloc: Global, fields: &mut Items<Field>) -> Result<(), Fail> {
-    let mut next_age = question(alloc, "/data/next_age", Kind::Plain)?;
-    next_age.calculate = Some(one_more(alloc, 2)?);
-    fields.push(next_age)?;
-    let mut id = question(alloc, "/data/meta/entity/@id", Kind::Plain)?;
-    id.readonly = Some(call(alloc, Func::Yes));
-    fields.push(id)?;
-    let mut create = question(alloc, "/data/meta/entity/@create", Kind::Plain)?;
-    create.initial = text(alloc, "1")?;
-    fields.push(create)?;
-    let mut entity_label = question(alloc, "/data/meta/entity/label", Kind::Plain)?;
-    entity_label.readonly = Some(call(alloc, Func::Yes));
-    entity_label.calculate = Some(label(alloc)?);
-    fields.push(entity_label)?;
+    fields.push(next(alloc, "/data/next_age", 2)?)?;
+    fields.push(entity_id(alloc)?)?;
+    fields.push(entity_create(alloc)?)?;
+    fields.push(entity_label(alloc)?)?;
     Ok(())
 }
 
