@@ -1,6 +1,6 @@
 -- From the parts of an outline to its form.
-use Rattle.std.specs.Prelude.{◌≡◌, ℕ, Bool, true, false, nat_lt, if◌then◌else◌, List, length, Result, Ok, Err, refl}
-use Rattle.std.specs.Prelude.{Contains, IfOk, IfErr, Option, Some, option_map, slice_get, ◌<◌}
+use Rattle.std.specs.Prelude.{◌≡◌, ℕ, true, false, nat_lt, List, length, Result, Ok, Err, refl}
+use Rattle.std.specs.Prelude.{Contains, IfOk, IfErr, Some, option_map, slice_get}
 use Rattle.std.proofs.Common.{ap, sym, ◌∙◌, subst}
 use Rattle.form_def.specs.declared.form.FormDef.{FormDef}
 use Rattle.form_def.specs.declared.parts.FormParts.{FormParts}
@@ -13,10 +13,8 @@ use Rattle.form_outline.specs.declared.outline.PrimaryField.{PrimaryField}
 use Rattle.form_outline.specs.declared.outline.Outline.{Outline}
 use Rattle.form_outline.specs.declared.outline.ModelPart.TheVariants as part
 use Rattle.form_outline.specs.Names.{IsNamed}
-use Rattle.form_outline.specs.Outlines.{Outlines}
 use Rattle.form_read.specs.declared.refusal.FormRefused.{FormRefused}
 use Rattle.form_read.specs.declared.refusal.FormRefused.TheVariants.{Doc, NoPrimary, NoId, BadExpr, UnknownPath, UnknownControl, UnknownType, Cycle, UnknownList, TooManyFields, BadEntity, NoMemory}
-use Rattle.form_read.specs.declared.scope.Scope.{Scope}
 use Rattle.form_read.specs.declared.draft.Draft.{Draft}
 use Rattle.form_read.specs.declared.draft.Drafted.{Drafted}
 use Rattle.form_read.specs.Lists.{is_empty}

@@ -1,6 +1,6 @@
 -- Climbing step by step.
 use Rattle.std.specs.Prelude.{◌≡◌, ℕ, ◌<◌, ◌+◌, Bool, true, false, if◌then◌else◌, List, [], ◌∷◌, ◌++◌, Option, Some, None, refl, length}
-use Rattle.std.proofs.Common.{ap, sym, ◌∙◌, arith}
+use Rattle.std.proofs.Common.{ap, sym, arith}
 use Rattle.form_def.specs.Paths.{parent_path}
 use Rattle.form_read.specs.Lists.{is_empty}
 use Rattle.form_read.specs.Paths.{is_step, past_step, climbed}

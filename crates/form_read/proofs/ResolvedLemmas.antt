@@ -1,5 +1,5 @@
 -- What each kind of expression is resolved to.
-use Rattle.std.specs.Prelude.{◌≡◌, ℕ, ℤ, true, false, if◌then◌else◌, List, [], ◌∷◌, ◌++◌, Result, Ok, Err, map, refl}
+use Rattle.std.specs.Prelude.{◌≡◌, ℕ, ℤ, true, false, if◌then◌else◌, List, Result, Ok, Err, map, refl}
 use Rattle.std.proofs.Common.{ap, sym, ◌∙◌}
 use Rattle.form_def.specs.declared.expr.Func.{Func}
 use Rattle.form_def.specs.declared.expr.Op.{Op}

@@ -1,9 +1,9 @@
 -- What is told of one answer is told of another that is refused alike.
-use Rattle.std.specs.Prelude.{◌≡◌, Result, Ok, Err}
-use Rattle.std.proofs.Common.{ap, ◌∙◌}
+use Rattle.std.specs.Prelude.{◌≡◌, Result, Err}
+use Rattle.std.proofs.Common.{ap}
 use Rattle.form_read.specs.declared.refusal.FormRefused.{FormRefused}
 use Rattle.form_read.specs.declared.refusal.FormRefused.TheVariants.{Doc, NoPrimary, NoId, BadExpr, UnknownPath, UnknownControl, UnknownType, Cycle, UnknownList, TooManyFields, BadEntity, NoMemory}
-use Rattle.form_read.specs.Refusals.{Tells, Gives, ◌>>=◌}
+use Rattle.form_read.specs.Refusals.{Tells, ◌>>=◌}
 
 pub tells_alike : {A B : Type 0} (q : FormRefused) (a : Result A FormRefused) (b : Result B FormRefused) → ((r : FormRefused) → a ≡ Err r → b ≡ Err r) → Tells q a → Tells q b
 tells_alike (Doc refusal) a b f t = f _ t

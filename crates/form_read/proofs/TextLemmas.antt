@@ -1,9 +1,9 @@
 -- What is left of a text behind a front or before an end.
-use Rattle.std.specs.Prelude.{◌≡◌, ℕ, Bool, true, false, if◌then◌else◌, ◌-◌, ◌++◌, List, Option, Some, None, nat_eq, length, take, drop, MatchOption, refl}
+use Rattle.std.specs.Prelude.{◌≡◌, ℕ, true, false, if◌then◌else◌, ◌-◌, ◌++◌, List, Option, Some, None, nat_eq, length, take, drop, MatchOption, refl}
 use Rattle.std.specs.List.{starts_with, ends_with}
 use Rattle.std.specs.Option.{option_copied}
 use Rattle.std.specs.Str.Pattern.{FindsTextPrefix, FindsTextSuffix, StripsPrefix, StripsSuffix}
-use Rattle.std.proofs.Common.{ap, sym, ◌∙◌, Bor, inl, inr}
+use Rattle.std.proofs.Common.{ap, ◌∙◌, Bor, inl, inr}
 use Rattle.std.proofs.lemmas.Bool.{cases_Bool}
 use Rattle.std.proofs.lemmas.Bool.Decides.{Decides-eqb}
 use Rattle.std.proofs.lemmas.Slice.Eq.{starts_is, ends_is}

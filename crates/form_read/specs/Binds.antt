@@ -1,6 +1,6 @@
 -- What binds say (ODK XForms, "Bindings"). The first bind of a field counts, and the others are unread with their faults.
-use Rattle.std.specs.Prelude.{ℕ, Bool, true, false, if◌then◌else◌, List, [], ◌∷◌, ◌++◌, codes, nat_eq, Option, Some, None, Result, Ok, Err, find, option_and_then, slice_set}
-use Rattle.std.specs.List.{list_any, starts_with, slice_index_or}
+use Rattle.std.specs.Prelude.{ℕ, Bool, true, false, if◌then◌else◌, List, ◌∷◌, ◌++◌, codes, nat_eq, Option, Some, None, Result, Ok, Err, find, option_and_then, slice_set}
+use Rattle.std.specs.List.{starts_with, slice_index_or}
 use Rattle.std.specs.Str.{bytes_eq}
 use Rattle.form_outline.specs.declared.outline.Bind.{Bind}
 use Rattle.form_outline.specs.declared.outline.ModelPart.{ModelPart}

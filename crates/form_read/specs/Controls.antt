@@ -1,6 +1,6 @@
 -- What controls say (ODK XForms, "Body"): one for a field at most, its kind by its name and by the type of the field's bind, and the
 -- values that a select offers.
-use Rattle.std.specs.Prelude.{ℕ, Bool, true, false, not, ◌||◌, if◌then◌else◌, List, [], ◌∷◌, ◌++◌, codes, Option, Some, None, Result, Ok, Err, slice_set, unwrap_or}
+use Rattle.std.specs.Prelude.{ℕ, Bool, true, ◌||◌, if◌then◌else◌, List, [], ◌∷◌, ◌++◌, codes, Option, Some, None, Result, Ok, Err, slice_set, unwrap_or}
 use Rattle.std.specs.List.{slice_index_or}
 use Rattle.std.specs.Str.{bytes_eq}
 use Rattle.form_read.specs.Lists.{is_empty}

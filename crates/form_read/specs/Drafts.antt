@@ -1,5 +1,5 @@
 -- The parts of a form in document order: each says what it says of a field or a table, or is refused.
-use Rattle.std.specs.Prelude.{ℕ, Bool, false, nat_lt, if◌then◌else◌, List, [], ◌∷◌, length, map, Option, None, Result, Ok, Err}
+use Rattle.std.specs.Prelude.{ℕ, Bool, false, nat_lt, if◌then◌else◌, List, [], ◌∷◌, length, map, None, Result, Ok, Err}
 use Rattle.form_read.specs.Lists.{is_empty}
 use Rattle.form_outline.specs.declared.outline.PrimaryPart.{PrimaryPart}
 use Rattle.form_outline.specs.declared.outline.ModelPart.{ModelPart}

@@ -1,10 +1,7 @@
 -- The form that a document describes (ODK XForms in a profile), or what it is refused for first.
 use Rattle.std.specs.Prelude.{◌≡◌, ℕ, Bool, true, false, if◌then◌else◌, List, [], ◌∷◌, codes, length, Option, Some, None, Result, Ok, Err, option_map, slice_get}
 use Rattle.std.specs.Str.{bytes_eq}
-use Rattle.form_def.specs.declared.expr.Expr.{Expr}
-use Rattle.form_def.specs.declared.field.Kind.{Kind}
 use Rattle.form_def.specs.declared.field.Kind.TheVariants as kind
-use Rattle.form_def.specs.declared.field.Choices.{Choices}
 use Rattle.form_def.specs.declared.field.Choices.TheVariants as choices
 use Rattle.form_def.specs.declared.field.Field.{Field}
 use Rattle.form_def.specs.declared.field.EntityDef.{EntityDef}

@@ -1,11 +1,10 @@
 -- The paths in expressions (XPath 1.0, section 2): absolute ones, and those that climb from the field whose expression it is.
-use Rattle.std.specs.Prelude.{ℕ, Bool, not, ◌&&◌, ◌==◌, if◌then◌else◌, List, [], ◌∷◌, ◌++◌, Option, Some, None, position, slice_get, codes, option_and_then}
+use Rattle.std.specs.Prelude.{ℕ, Bool, not, ◌&&◌, ◌==◌, if◌then◌else◌, List, [], ◌∷◌, ◌++◌, Option, Some, None, position, codes, option_and_then}
 use Rattle.std.specs.List.{list_any, starts_with}
-use Rattle.std.specs.Option.{option_map_or}
 use Rattle.std.specs.Str.{bytes_eq}
 use Rattle.std.specs.Prelude.{nat_eq}
 use Rattle.form_read.specs.Lists.{is_empty}
-use Rattle.form_def.specs.Paths.{is_slash, parent_path}
+use Rattle.form_def.specs.Paths.{parent_path}
 use Rattle.form_outline.specs.declared.outline.PrimaryField.{PrimaryField}
 
 abbrev pub is_step : ℕ → ℕ → ℕ → Bool

@@ -1,5 +1,5 @@
 -- Steps that may be refused: the first refusal is the answer.
-use Rattle.std.specs.Prelude.{◌≡◌, Bool, if◌then◌else◌, List, Result, Ok, Err}
+use Rattle.std.specs.Prelude.{◌≡◌, Result, Ok, Err}
 use Rattle.form_read.specs.declared.refusal.FormRefused.{FormRefused}
 use Rattle.form_read.specs.declared.refusal.FormRefused.TheVariants.{Doc, NoPrimary, NoId, BadExpr, UnknownPath, UnknownControl, UnknownType, Cycle, UnknownList, TooManyFields, BadEntity, NoMemory}
 

@@ -1,6 +1,6 @@
 -- The fields that a form has, by number, before their binds and controls: those of the primary instance in document order, and
 -- then those of `meta`, of which the first entity counts.
-use Rattle.std.specs.Prelude.{ℕ, Bool, true, false, ◌||◌, if◌then◌else◌, List, [], ◌∷◌, ◌++◌, Option, Some, None, position}
+use Rattle.std.specs.Prelude.{ℕ, Bool, true, false, ◌||◌, if◌then◌else◌, List, [], ◌∷◌, ◌++◌, Option, position}
 use Rattle.std.specs.List.{flat_map}
 use Rattle.std.specs.Str.{bytes_eq}
 use Rattle.form_outline.specs.declared.outline.PrimaryField.{PrimaryField}

@@ -1,5 +1,4 @@
-use Rattle.std.proofs.Common.{◌≡◌, ◌++◌, ℕ, take, map, length, List, [], Some, None, Ok, Err, false}
-use Rattle.std.specs.List.{flat_map}
+use Rattle.std.proofs.Common.{◌≡◌, length}
 use Rattle.std.specs.Prelude.{find, option_and_then}
 use Rattle.form_read.specs.Binds.{is_bind_of, type_in, type_of}
 use Rattle.form_read.proofs.binds.type_of.Given as goal

@@ -1,5 +1,4 @@
-use Rattle.std.proofs.Common.{◌≡◌, ◌++◌, ℕ, take, map, length, List, [], Some, None, Ok, Err, false}
-use Rattle.std.specs.List.{flat_map}
+use Rattle.std.proofs.Common.{◌≡◌, length}
 use Rattle.form_read.specs.Drafts.{model_taken}
 use Rattle.form_read.proofs.drafts.model_taken.Given as goal
 

@@ -1,5 +1,4 @@
-use Rattle.std.proofs.Common.{◌≡◌, ◌++◌, ℕ, take, map, length, List, [], Some, None, Ok, Err, false}
-use Rattle.std.specs.List.{flat_map}
+use Rattle.std.proofs.Common.{◌≡◌, take, map, None}
 use Rattle.form_read.proofs.drafts.nothing_for.Given as goal
 
 abbrev pub invariant-loop-slot : goal.invariant-loop-slot

@@ -1,5 +1,4 @@
-use Rattle.std.proofs.Common.{◌≡◌, ◌++◌, ℕ, take, drop, map, length, List, [], Some, None, Ok, Err, false}
-use Rattle.std.specs.List.{flat_map}
+use Rattle.std.proofs.Common.{◌≡◌, ◌++◌, drop, map, Ok}
 use Rattle.form_read.specs.Refusals.{◌>>=◌}
 use Rattle.form_read.specs.Expressions.{resolved, all_resolved}
 use Rattle.form_read.proofs.expressions.+resolving.Given as goal

@@ -1,4 +1,4 @@
-use Rattle.std.proofs.Common.{◌≡◌, ◌++◌, ℕ, length}
+use Rattle.std.proofs.Common.{◌≡◌, ◌++◌, length}
 use Rattle.form_read.specs.Forms.{fields_of}
 use Rattle.form_read.proofs.fields.fields_of.Given as goal
 

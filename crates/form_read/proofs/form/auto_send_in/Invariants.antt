@@ -1,4 +1,4 @@
-use Rattle.std.proofs.Common.{◌≡◌, ◌++◌, ℕ, length}
+use Rattle.std.proofs.Common.{◌≡◌, length}
 use Rattle.form_read.specs.Forms.{auto_send_in}
 use Rattle.form_read.proofs.form.auto_send_in.Given as goal
 

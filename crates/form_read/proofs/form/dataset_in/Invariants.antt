@@ -1,4 +1,4 @@
-use Rattle.std.proofs.Common.{◌≡◌, ◌++◌, ℕ, length}
+use Rattle.std.proofs.Common.{◌≡◌, length}
 use Rattle.form_read.specs.Forms.{dataset_in}
 use Rattle.form_read.proofs.form.dataset_in.Given as goal
 

@@ -1,5 +1,4 @@
 use Rattle.std.proofs.Common.{◌≡◌, ◌∙◌, sym, ap, rules, [], false}
-use Rattle.form_def.specs.Paths.{parent_path}
 use Rattle.form_read.specs.Lists.{is_empty}
 use Rattle.form_read.specs.Paths.{climbed}
 use Rattle.form_read.proofs.PathLemmas.{climbed_up, not_empty}

@@ -1,5 +1,4 @@
-use Rattle.std.proofs.Common.{◌≡◌, ◌++◌, ℕ, take, map, length, List, [], Some, None, Ok, Err, false}
-use Rattle.std.specs.List.{flat_map}
+use Rattle.std.proofs.Common.{◌≡◌, length}
 use Rattle.form_read.specs.Paths.{climbed}
 use Rattle.form_read.proofs.paths.climbed.Given as goal
 

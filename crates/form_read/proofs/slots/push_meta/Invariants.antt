@@ -1,5 +1,4 @@
-use Rattle.std.proofs.Common.{◌≡◌, ◌++◌, ℕ, take, map, length, List, [], Some, None, Ok, Err, false}
-use Rattle.std.specs.List.{flat_map}
+use Rattle.std.proofs.Common.{◌≡◌, ◌++◌, length, false}
 use Rattle.form_read.specs.Slots.{meta_slots}
 use Rattle.form_read.proofs.slots.push_meta.Given as goal
 

@@ -1,5 +1,4 @@
-use Rattle.std.proofs.Common.{◌≡◌, ◌++◌, ℕ, take, map, length, List, [], Some, None, Ok, Err, false}
-use Rattle.std.specs.List.{flat_map}
+use Rattle.std.proofs.Common.{◌≡◌, take}
 use Rattle.form_read.proofs.tables.cells_of.Given as goal
 
 abbrev pub invariant-loop-cell : goal.invariant-loop-cell
