@@ -7,7 +7,7 @@ use Rattle.form_def.specs.declared.parts.FormParts.{FormParts}
 use Rattle.form_def.specs.FormDefs.{parts_of_form}
 use Rattle.form_def.specs.declared.field.Field.{Field}
 use Rattle.form_def.specs.Order.{is_order, dependencies_at}
-use Rattle.form_order.specs.Cycles.{IsFirstCycle}
+use Rattle.form_order.specs.Cycles.{NoCycle, IsFirstCycle}
 use Rattle.form_def.specs.Fields.{are_within}
 use Rattle.form_outline.specs.declared.outline.PrimaryField.{PrimaryField}
 use Rattle.form_outline.specs.declared.outline.Outline.{Outline}
@@ -81,13 +81,15 @@ no_order o d q is forms.lacks_memory = forms.by_memory
 pub refuses_order : (o : Outline) (x : Drafted) (q : FormRefused) → drafted o ≡ Ok x → HasNoOrder (fields_drafted x) q → RefusesParts o q
 refuses_order o x q is why = let h = drafted_is o x is in no_order o h.0 q h.1 (rw h.2 at why)
 
-pub form_is : (o : Outline) (x : Drafted) (parts : FormParts) (form : FormDef) → drafted o ≡ Ok x → parts ≡ parts_drafted x parts.order → parts_of_form form ≡ parts → IsFormOf o form
-form_is o x parts form is parts_is form_parts =
+pub form_is : (o : Outline) (x : Drafted) (parts : FormParts) (form : FormDef) → drafted o ≡ Ok x → parts ≡ parts_drafted x parts.order → NoCycle (fields_drafted x) → parts_of_form form ≡ parts
+    → IsFormOf o form
+form_is o x parts form is parts_is no_cycle form_parts =
     let h = drafted_is o x is in
     record {
       draft = h.0;
       drafted = h.1;
       parts = form_parts ∙ (parts_is ∙ (ap (λ y. parts_drafted y parts.order) h.2 ∙ ap (λ order. parts_of o h.0 order) (sym (ap (λ p. p.order) form_parts))));
+      no_cycle = subst (λ y. NoCycle (fields_drafted y)) h.2 no_cycle;
     }
 
 all_were_taken : (o : Outline) (d : Draft) → draft_of o ≡ Ok d → all_taken o.body_first (scope_of o) o.primary o.controls (empty_draft (slots_of o.primary)) ≡ Ok d

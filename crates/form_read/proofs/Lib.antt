@@ -6,3 +6,4 @@ pub mod FormLemmas
 pub mod DifferLemmas
 pub mod WithinLemmas
 pub mod DraftWithinLemmas
+pub mod LawLemmas

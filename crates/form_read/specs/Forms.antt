@@ -11,7 +11,7 @@ use Rattle.form_def.specs.Paths.{is_name}
 use Rattle.form_def.specs.Fields.{have_paths, PathsDiffer, are_within}
 use Rattle.form_def.specs.Order.{dependencies_at, is_order}
 use Rattle.form_def.specs.FormDefs.{parts_of_form}
-use Rattle.form_order.specs.Cycles.{IsFirstCycle}
+use Rattle.form_order.specs.Cycles.{NoCycle, IsFirstCycle}
 use Rattle.form_outline.specs.declared.outline.PrimaryField.{PrimaryField}
 use Rattle.form_outline.specs.declared.outline.PrimaryPart.{PrimaryPart}
 use Rattle.form_outline.specs.declared.outline.PrimaryPart.TheVariants as primary
@@ -21,6 +21,8 @@ use Rattle.form_outline.specs.declared.outline.Outline.{Outline}
 use Rattle.form_outline.specs.declared.reading.OutlineFault.{OutlineFault}
 use Rattle.form_outline.specs.declared.reading.OutlineFault.TheVariants as fault
 use Rattle.form_outline.specs.Outlines.{Outlines, Refuses as RefusesOutline}
+use Rattle.rosa_doc.specs.declared.refusal.DocRefused.{DocRefused}
+use Rattle.rosa_doc.specs.declared.refusal.DocRefused.TheVariants as doc
 use Rattle.form_read.specs.declared.refusal.FormRefused.{FormRefused}
 use Rattle.form_read.specs.declared.refusal.FormRefused.TheVariants.{Doc, NoPrimary, Cycle, NoMemory}
 use Rattle.form_read.specs.declared.draft.Bound.{Bound}
@@ -157,6 +159,7 @@ pub record IsFormOf (outline : Outline) (form : FormDef) : Type 0 where
   pub draft : Draft
   pub drafted : draft_of outline ≡ Ok draft
   pub parts : parts_of_form form ≡ parts_of outline draft form.order
+  pub no_cycle : NoCycle (fields_in outline draft)
 
 -- Why the parts of an outline are no form: the first of them in document order that is refused, or the first of its fields that
 -- depends on itself.
@@ -169,8 +172,18 @@ pub data RefusesParts (outline : Outline) : FormRefused → Type 0 where
 abbrev pub Describes : List ℕ → FormDef → Type 0
 Describes bytes form = (o : Outline) × Outlines bytes o × IsFormOf o form
 
+-- want of memory in reading the document is want of memory
+abbrev pub doc_refusal : DocRefused → FormRefused
+doc_refusal (doc.NotUtf8 at) = Doc (doc.NotUtf8 at)
+doc_refusal (doc.BadMarkup at) = Doc (doc.BadMarkup at)
+doc_refusal (doc.Unclosed at) = Doc (doc.Unclosed at)
+doc_refusal (doc.TooDeep at) = Doc (doc.TooDeep at)
+doc_refusal (doc.TooLong long) = Doc (doc.TooLong long)
+doc_refusal (doc.HasDoctype at) = Doc (doc.HasDoctype at)
+doc_refusal doc.NoMemory = NoMemory
+
 abbrev pub refusal_of : OutlineFault → FormRefused
-refusal_of (fault.Doc refusal) = Doc refusal
+refusal_of (fault.Doc refusal) = doc_refusal refusal
 refusal_of fault.NoPrimary = NoPrimary
 refusal_of fault.NoMemory = NoMemory
 
@@ -178,3 +191,7 @@ refusal_of fault.NoMemory = NoMemory
 pub data Refuses (bytes : List ℕ) : FormRefused → Type 0 where
   no_outline : (why : OutlineFault) → RefusesOutline bytes why → Refuses bytes (refusal_of why)
   no_form : (o : Outline) (refusal : FormRefused) → Outlines bytes o → RefusesParts o refusal → Refuses bytes refusal
+
+-- what bytes describe, but for the order of the fields, of which there may be several
+abbrev pub unordered : FormDef → FormParts
+unordered form = record (parts_of_form form) { order = [] }

@@ -1,7 +1,8 @@
-ghost use Rattle.std.specs.Prelude.{◌≡◌, [], ◌∷◌, IfOk, IfErr, MatchOption, length, true};
+ghost use Rattle.std.specs.Prelude.{◌≡◌, [], ◌∷◌, IfOk, IfErr, OnOk, MatchOption, length, true};
 ghost use Rattle.std.specs.Option.{option_copied};
 ghost use Rattle.form_def.specs.Fields.{are_within};
 ghost use Rattle.form_def.specs.Order.{is_order};
+ghost use Rattle.form_order.specs.Cycles.{NoCycle};
 ghost use Rattle.form_read.specs.Forms.{bound_in, asked_in, joined, field_of, fields_of, HasNoOrder};
 
 use crate::FormRefused;
@@ -114,6 +115,7 @@ pub fn fields_of(
 pub fn ordered(alloc: Global, fields: &[Field]) -> Result<Items<u64>, FormRefused>
     requires { are_within (length fields.now) 0 fields.now ≡ true }
     ensures order { IfOk result (λ order. is_order fields.now order ≡ true) }
+    ensures no_cycle { OnOk result (NoCycle fields.now) }
     ensures refused { IfErr result (λ refusal. HasNoOrder fields.now refusal) }
 {
     match order_of(alloc, fields) {

@@ -1,4 +1,4 @@
-ghost use Rattle.std.specs.Prelude.{◌≡◌, IfOk, IfErr, Contains, length, true, option_map};
+ghost use Rattle.std.specs.Prelude.{◌≡◌, IfOk, IfErr, OnOk, Contains, length, true, option_map};
 ghost use Rattle.std.specs.Option.{option_copied};
 ghost use Rattle.form_def.specs.Fields.{are_within};
 ghost use Rattle.form_def.specs.Order.{is_order};
@@ -6,8 +6,9 @@ ghost use Rattle.form_def.specs.FormDefs.{parts_of_form};
 ghost use Rattle.form_outline.specs.declared.outline.ModelPart.TheVariants as part;
 ghost use Rattle.form_outline.specs.Names.{IsNamed};
 ghost use Rattle.form_read.specs.declared.refusal.FormRefused.TheVariants as refused_for;
+ghost use Rattle.form_order.specs.Cycles.{NoCycle};
 ghost use Rattle.form_read.specs.Refusals.{Gives};
-ghost use Rattle.form_read.specs.Forms.{auto_send_by, auto_send_in, dataset_in, entity_def, drafted, fields_drafted, parts_drafted, IsSound, HasNoOrder, IsFormOf, RefusesParts, refusal_of, Describes, Refuses};
+ghost use Rattle.form_read.specs.Forms.{auto_send_by, auto_send_in, dataset_in, entity_def, drafted, fields_drafted, parts_drafted, IsSound, HasNoOrder, IsFormOf, RefusesParts, doc_refusal, refusal_of, Describes, Refuses};
 
 use crate::draft::{Draft, Drafted};
 use crate::drafts::{all_taken, empty_draft};
@@ -17,6 +18,7 @@ use crate::{FormRefused, Scope};
 use field_text::{NoMemory, Text};
 use form_def::{EntityDef, FormDef, FormFault, FormParts};
 use form_outline::{ModelPart, Outline, OutlineFault, PrimaryPart, read_outline};
+use rosa_doc::DocRefused;
 use std::alloc::Global;
 
 /// How many fields a form may have.
@@ -122,6 +124,7 @@ fn parts_of(alloc: Global, drafted: Drafted) -> Result<FormParts, FormRefused>
     requires { are_within (length (fields_drafted drafted)) 0 (fields_drafted drafted) ≡ true }
     ensures parts { IfOk result (λ parts. parts ≡ parts_drafted drafted parts.order) }
     ensures order { IfOk result (λ parts. is_order (fields_drafted drafted) parts.order ≡ true) }
+    ensures no_cycle { OnOk result (NoCycle (fields_drafted drafted)) }
     ensures refused { IfErr result (λ refusal. HasNoOrder (fields_drafted drafted) refusal) }
 {
     let Drafted {
@@ -185,11 +188,25 @@ fn form_of(alloc: Global, outline: Outline) -> Result<FormDef, FormRefused>
     form_from(alloc, parts)
 }
 
+fn doc_refusal(refusal: DocRefused) -> FormRefused
+    ensures { result ≡ doc_refusal refusal }
+{
+    match refusal {
+        DocRefused::NoMemory => FormRefused::NoMemory,
+        DocRefused::NotUtf8 { .. }
+        | DocRefused::BadMarkup { .. }
+        | DocRefused::Unclosed { .. }
+        | DocRefused::TooDeep { .. }
+        | DocRefused::TooLong { .. }
+        | DocRefused::HasDoctype { .. } => FormRefused::Doc(refusal),
+    }
+}
+
 fn refusal_of(fault: OutlineFault) -> FormRefused
     ensures { result ≡ refusal_of fault }
 {
     match fault {
-        OutlineFault::Doc(refusal) => FormRefused::Doc(refusal),
+        OutlineFault::Doc(refusal) => doc_refusal(refusal),
         OutlineFault::NoPrimary => FormRefused::NoPrimary,
         OutlineFault::NoMemory => FormRefused::NoMemory,
     }

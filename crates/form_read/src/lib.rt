@@ -8,6 +8,7 @@ mod drafts;
 mod expressions;
 mod fields;
 mod form;
+mod laws;
 mod paths;
 mod primary;
 mod refusal;
@@ -16,5 +17,6 @@ mod slots;
 mod tables;
 
 pub use form::read_form;
+pub use laws::{form_or_refusal, one_form};
 pub use refusal::FormRefused;
 use scope::Scope;

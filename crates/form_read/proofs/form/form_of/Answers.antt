@@ -20,7 +20,7 @@ pub form_from-requires : goal.form_from-requires
 form_from-requires c = sound c.args.outline _ _ c.requires.named c.requires.primary c.in_ok-drafted.ensures c.in_ok-parts.ensures.parts c.in_ok-parts.ensures.order
 
 pub returns-clause-form : goal.returns-clause-form
-returns-clause-form c = if_ok c.form_from.result (λ form is. form_is c.args.outline _ _ form c.in_ok-drafted.ensures c.in_ok-parts.ensures.parts is) c.form_from.ensures.form
+returns-clause-form c = if_ok c.form_from.result (λ form is. form_is c.args.outline _ _ form c.in_ok-drafted.ensures c.in_ok-parts.ensures.parts c.in_ok-parts.ensures.no_cycle is) c.form_from.ensures.form
 
 pub returns-clause-refused : goal.returns-clause-refused
 returns-clause-refused c = if_err c.form_from.result (λ refusal is. rw is forms.by_memory) c.form_from.ensures.refused
