@@ -14,6 +14,8 @@ mod refusal;
 mod scope;
 mod slots;
 mod tables;
+#[cfg(test)]
+mod tests;
 
 pub use form::read_form;
 pub use refusal::FormRefused;
