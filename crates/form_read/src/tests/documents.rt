@@ -1,4 +1,6 @@
 use crate::tests::check_document;
+use crate::{FormRefused, read_form};
+use rosa_doc::DocRefused;
 use std::alloc::Global;
 use std::test::Fail;
 
@@ -186,5 +188,13 @@ fn a_survey_and_its_changes(rt: HostRuntime) -> Result<(), Fail> {
         let document = changed(alloc, *number, text)?;
         check_document(&rt, alloc, document.as_str(), want)?;
     }
+    Ok(())
+}
+
+#[test]
+fn other_bytes_are_no_document(rt: HostRuntime) -> Result<(), Fail> {
+    let answer = read_form(rt.alloc(), b"<h>\xFF");
+    let is_refused = matches!(answer, Err(FormRefused::Doc(DocRefused::NotUtf8 { at: 3 })));
+    assert!(rt; is_refused);
     Ok(())
 }

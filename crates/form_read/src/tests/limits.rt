@@ -1,4 +1,4 @@
-use crate::tests::told;
+use crate::tests::{check_document, told};
 use std::alloc::Global;
 use std::test::Fail;
 
@@ -112,6 +112,48 @@ fn fields_are_counted(rt: HostRuntime) -> Result<(), Fail> {
         let fields = many_fields(alloc, *groups, last)?;
         let out = told(alloc, fields.as_str(), model, "")?;
         assert!(rt; out.as_str().starts_with(*want), "{want}");
+    }
+    Ok(())
+}
+
+// What stands before and behind 510 fields, and the answer.
+static AROUND: [(&str, &str, &str); 5] = [
+    (
+        "<h><head><model><instance><d>",
+        "</d></instance></model></head><body/></h>",
+        "NoId",
+    ),
+    (
+        "<h><head><model><instance><d>",
+        "</d></instance></model></head></h>",
+        "NoPrimary",
+    ),
+    (
+        "<h><head><model><instance><d id='f'>",
+        "</d></instance></model></head></h>",
+        "NoPrimary",
+    ),
+    (
+        "<h><head><model><instance><d id='f'>",
+        "</d></instance></model></head><body><upload/></body></h>",
+        "TooManyFields 510",
+    ),
+    (
+        "<h><body><upload/></body><head><model><bind/><instance><d id='f'>",
+        "<a/><a/></d></instance></model></head></h>",
+        "TooManyFields 512",
+    ),
+];
+
+#[test]
+fn the_count_has_its_place(rt: HostRuntime) -> Result<(), Fail> {
+    let alloc = rt.alloc();
+    let fields = many_fields(alloc, 51, "")?;
+    for (before, behind, want) in &AROUND {
+        let mut document = String::from_str(alloc, before)?;
+        document.push_str(fields.as_str())?;
+        document.push_str(behind)?;
+        check_document(&rt, alloc, document.as_str(), want)?;
     }
     Ok(())
 }
