@@ -85,12 +85,12 @@ kept_with_mark : (form : FormDef) (tables : List NamedTable) (calculation : Fiel
 kept_with_mark form tables calculation placed made number new k on = (refl, sym (get_or-set_other made.texts number k _ [] (differs placed number k new on)))
 
 right_here : (form : FormDef) (tables : List NamedTable) (calculation : Field → Option Expr) → IsCalculation calculation → (before : List (List ℕ)) (placed : List ℕ) (made : Made) (number : ℕ)
-    → may_come form.fields (is_among placed) number ≡ true → SoFar form tables calculation before placed made
+    → may_come (length form.fields) (dependencies_at form.fields) (is_among placed) number ≡ true → SoFar form tables calculation before placed made
     → IsRight form tables calculation before (made_with form tables calculation made number) number
 right_here form tables calculation is before placed made number may s field at =
     let new = is_new form.fields placed number may in
     let depends = depends_at form (is_among placed) number field at (has_before form.fields placed number may) in
-    let low : number < length form.fields = may_come_within form.fields (is_among placed) number may in
+    let low : number < length form.fields = may_come_within (length form.fields) (dependencies_at form.fields) (is_among placed) number may in
     let marks_long : length made.marks ≡ length form.fields = s.marks_long in
     let texts_long : length made.texts ≡ length form.fields = s.texts_long in (
       get_or-set_same made.marks number (mark_at form tables made.texts made.marks number) false (omega arith)
@@ -112,7 +112,7 @@ neither_placed number placed k true e off = absurd (false≢true (sym off))
 neither_placed number placed k false e off = (λ h. eqb-false number k e (sym h), off)
 
 one_more : (form : FormDef) (tables : List NamedTable) (calculation : Field → Option Expr) → IsCalculation calculation → (before : List (List ℕ)) (placed : List ℕ) (made : Made) (number : ℕ)
-    → may_come form.fields (is_among placed) number ≡ true → SoFar form tables calculation before placed made
+    → may_come (length form.fields) (dependencies_at form.fields) (is_among placed) number ≡ true → SoFar form tables calculation before placed made
     → SoFar form tables calculation before (number ∷ placed) (made_with form tables calculation made number)
 one_more form tables calculation is before placed made number may s =
     let new = is_new form.fields placed number may in
@@ -130,13 +130,13 @@ one_more form tables calculation is before placed made number may s =
     }
 
 all_more_along : (form : FormDef) (tables : List NamedTable) (calculation : Field → Option Expr) → IsCalculation calculation → (before : List (List ℕ)) (placed numbers : List ℕ) (made : Made)
-    → are_ordered form.fields placed numbers ≡ true → SoFar form tables calculation before placed made
+    → are_ordered (length form.fields) (dependencies_at form.fields) placed numbers ≡ true → SoFar form tables calculation before placed made
     → SoFar form tables calculation before (placed_after placed numbers) (made_along form tables calculation numbers made)
 all_more_along form tables calculation is before placed [] made ordered s = s
 all_more_along form tables calculation is before placed (number ∷ numbers) made ordered s =
-    let may = and-first (may_come form.fields (is_among placed) number) (are_ordered form.fields (number ∷ placed) numbers) ordered in
+    let may = and-first (may_come (length form.fields) (dependencies_at form.fields) (is_among placed) number) (are_ordered (length form.fields) (dependencies_at form.fields) (number ∷ placed) numbers) ordered in
     all_more_along form tables calculation is before (number ∷ placed) numbers (made_with form tables calculation made number)
-    (and-second (may_come form.fields (is_among placed) number) (are_ordered form.fields (number ∷ placed) numbers) ordered)
+    (and-second (may_come (length form.fields) (dependencies_at form.fields) (is_among placed) number) (are_ordered (length form.fields) (dependencies_at form.fields) (number ∷ placed) numbers) ordered)
     (one_more form tables calculation is before placed made number may s)
 
 at_first : (form : FormDef) (tables : List NamedTable) (calculation : Field → Option Expr) (texts : List (List ℕ)) → length texts ≡ length form.fields

@@ -57,17 +57,17 @@ none_placed : (count : ℕ) → Placing count []
 none_placed count = record { marks = replicate count false; long = length-replicate count false; same = unmarked_at count; counted = unmarked_count count }
 
 -- what `may_come` says
-pub is_new : (fields : List Field) (placed : List ℕ) (number : ℕ) → may_come fields (is_among placed) number ≡ true → is_among placed number ≡ false
+pub is_new : (fields : List Field) (placed : List ℕ) (number : ℕ) → may_come (length fields) (dependencies_at fields) (is_among placed) number ≡ true → is_among placed number ≡ false
 is_new fields placed number may = not-true (is_among placed number) (and-second (nat_lt number (length fields)) (not (is_among placed number))
     (and-first (nat_lt number (length fields) && not (is_among placed number)) (list_all (is_among placed) (dependencies_at fields number)) may))
 
-pub has_before : (fields : List Field) (placed : List ℕ) (number : ℕ) → may_come fields (is_among placed) number ≡ true → list_all (is_among placed) (dependencies_at fields number) ≡ true
+pub has_before : (fields : List Field) (placed : List ℕ) (number : ℕ) → may_come (length fields) (dependencies_at fields) (is_among placed) number ≡ true → list_all (is_among placed) (dependencies_at fields number) ≡ true
 has_before fields placed number may = and-second (nat_lt number (length fields) && not (is_among placed number)) (list_all (is_among placed) (dependencies_at fields number)) may
 
-one_placed : (fields : List Field) (placed : List ℕ) (number : ℕ) → may_come fields (is_among placed) number ≡ true → Placing (length fields) placed → Placing (length fields) (number ∷ placed)
+one_placed : (fields : List Field) (placed : List ℕ) (number : ℕ) → may_come (length fields) (dependencies_at fields) (is_among placed) number ≡ true → Placing (length fields) placed → Placing (length fields) (number ∷ placed)
 one_placed fields placed number may p =
     let long : length p.marks ≡ length fields = p.long in
-    let low : number < length fields = may_come_within fields (is_among placed) number may in
+    let low : number < length fields = may_come_within (length fields) (dependencies_at fields) (is_among placed) number may in
     let within : number < length p.marks = omega arith in record {
       marks = slice_set p.marks number true;
       long = length-set p.marks number true ∙ long;
@@ -75,24 +75,24 @@ one_placed fields placed number may p =
       counted = marked_count-set p.marks number within (p.same number ∙ is_new fields placed number may) ∙ ap suc p.counted;
     }
 
-placed_along : (fields : List Field) (placed numbers : List ℕ) → are_ordered fields placed numbers ≡ true → Placing (length fields) placed → Placing (length fields) (placed_after placed numbers)
+placed_along : (fields : List Field) (placed numbers : List ℕ) → are_ordered (length fields) (dependencies_at fields) placed numbers ≡ true → Placing (length fields) placed → Placing (length fields) (placed_after placed numbers)
 placed_along fields placed [] ordered p = p
 placed_along fields placed (number ∷ numbers) ordered p =
-    let may = and-first (may_come fields (is_among placed) number) (are_ordered fields (number ∷ placed) numbers) ordered in
-    placed_along fields (number ∷ placed) numbers (and-second (may_come fields (is_among placed) number) (are_ordered fields (number ∷ placed) numbers) ordered)
+    let may = and-first (may_come (length fields) (dependencies_at fields) (is_among placed) number) (are_ordered (length fields) (dependencies_at fields) (number ∷ placed) numbers) ordered in
+    placed_along fields (number ∷ placed) numbers (and-second (may_come (length fields) (dependencies_at fields) (is_among placed) number) (are_ordered (length fields) (dependencies_at fields) (number ∷ placed) numbers) ordered)
     (one_placed fields placed number may p)
 
 length-placed : (placed numbers : List ℕ) → length (placed_after placed numbers) ≡ length placed + length numbers
 length-placed placed [] = omega arith
 length-placed placed (number ∷ numbers) = omega (arith, length-placed (number ∷ placed) numbers)
 
-pub order_along : (fields : List Field) (order : List ℕ) → is_order fields order ≡ true → are_ordered fields [] order ≡ true
-order_along fields order is = and-second (length order == length fields) (are_ordered fields [] order) is
+pub order_along : (fields : List Field) (order : List ℕ) → is_order fields order ≡ true → are_ordered (length fields) (dependencies_at fields) [] order ≡ true
+order_along fields order is = and-second (length order == length fields) (are_ordered (length fields) (dependencies_at fields) [] order) is
 
 pub all_placed : (fields : List Field) (order : List ℕ) → is_order fields order ≡ true → (number : ℕ) → number < length fields → is_among (placed_after [] order) number ≡ true
 all_placed fields order is number within =
     let p = placed_along fields [] order (order_along fields order is) (none_placed (length fields)) in
-    let so_many : length order ≡ length fields = eqb-true _ _ (and-first (length order == length fields) (are_ordered fields [] order) is) in
+    let so_many : length order ≡ length fields = eqb-true _ _ (and-first (length order == length fields) (are_ordered (length fields) (dependencies_at fields) [] order) is) in
     let placed : length (placed_after [] order) ≡ 0 + length order = length-placed [] order in
     let long : length p.marks ≡ length fields = p.long in
     let counted : marked_count p.marks ≡ length (placed_after [] order) = p.counted in

@@ -24,10 +24,10 @@ field_there : (fields : List Field) (number : ℕ) → number < length fields �
 field_there fields number within = elim (slice_get_cases fields number).1 [ inl h ↦ (h.0, h.2) | inr h ↦ absurd (omega (arith, h.0)) ]
 
 agree_here : (form : FormDef) (tables : List NamedTable) (calculation : Field → Option Expr) → IsCalculation calculation → (before : List (List ℕ)) (placed : List ℕ) (a b : Made) (number : ℕ)
-    → ((k : ℕ) → IsRight form tables calculation before a k) → ((k : ℕ) → IsRight form tables calculation before b k) → may_come form.fields (is_among placed) number ≡ true → Agree (is_among placed) a b
+    → ((k : ℕ) → IsRight form tables calculation before a k) → ((k : ℕ) → IsRight form tables calculation before b k) → may_come (length form.fields) (dependencies_at form.fields) (is_among placed) number ≡ true → Agree (is_among placed) a b
     → (is_marked a.marks number ≡ is_marked b.marks number) × (text_at a.texts number ≡ text_at b.texts number)
 agree_here form tables calculation is before placed a b number one other may same =
-    let f = field_there form.fields number (may_come_within form.fields (is_among placed) number may) in
+    let f = field_there form.fields number (may_come_within (length form.fields) (dependencies_at form.fields) (is_among placed) number may) in
     let depends = depends_at form (is_among placed) number f.0 f.1 (has_before form.fields placed number may) in
     let x = one number f.0 f.1 in
     let y = other number f.0 f.1 in (
@@ -37,12 +37,12 @@ agree_here form tables calculation is before placed a b number one other may sam
 
 agree_along : (form : FormDef) (tables : List NamedTable) (calculation : Field → Option Expr) → IsCalculation calculation → (before : List (List ℕ)) (a b : Made)
     → ((k : ℕ) → IsRight form tables calculation before a k) → ((k : ℕ) → IsRight form tables calculation before b k)
-    → (placed numbers : List ℕ) → are_ordered form.fields placed numbers ≡ true → Agree (is_among placed) a b → Agree (is_among (placed_after placed numbers)) a b
+    → (placed numbers : List ℕ) → are_ordered (length form.fields) (dependencies_at form.fields) placed numbers ≡ true → Agree (is_among placed) a b → Agree (is_among (placed_after placed numbers)) a b
 agree_along form tables calculation is before a b one other placed [] ordered same = same
 agree_along form tables calculation is before a b one other placed (number ∷ numbers) ordered same =
-    let may = and-first (may_come form.fields (is_among placed) number) (are_ordered form.fields (number ∷ placed) numbers) ordered in
+    let may = and-first (may_come (length form.fields) (dependencies_at form.fields) (is_among placed) number) (are_ordered (length form.fields) (dependencies_at form.fields) (number ∷ placed) numbers) ordered in
     agree_along form tables calculation is before a b one other (number ∷ placed) numbers
-    (and-second (may_come form.fields (is_among placed) number) (are_ordered form.fields (number ∷ placed) numbers) ordered)
+    (and-second (may_come (length form.fields) (dependencies_at form.fields) (is_among placed) number) (are_ordered (length form.fields) (dependencies_at form.fields) (number ∷ placed) numbers) ordered)
     (λ k on. either_placed number placed k (λ j. (is_marked a.marks j ≡ is_marked b.marks j) × (text_at a.texts j ≡ text_at b.texts j))
     (agree_here form tables calculation is before placed a b number one other may same) same (eqb number k) refl on)
 
