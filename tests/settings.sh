@@ -15,11 +15,12 @@ check() {
     shift 5
     printf "$script" >script
     printf "$want" >want
-    "$program" "$@" <script >got
+    "$program" "$@" <script >got 2>/dev/null
     status=$?
-    length=$(wc -c <device.journal 2>/dev/null | tr -d ' ')
-    if [ "$status" != "$want_status" ] || ! cmp -s got want || [ "${length:-0}" != "$want_length" ]; then
-        echo "$name: status $status, ${length:-0} bytes, printed:"
+    length=0
+    [ -e device.journal ] && length=$(wc -c <device.journal | tr -d ' ')
+    if [ "$status" != "$want_status" ] || ! cmp -s got want || [ "$length" != "$want_length" ]; then
+        echo "$name: status $status, $length bytes, printed:"
         cat got
         failed=1
     fi

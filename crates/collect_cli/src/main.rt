@@ -1,8 +1,13 @@
 //! The program: the top call over the standard streams, the file `device.journal` of the current folder, and the clock.
 #![tactic(auto)]
 
+mod streams;
+
+use crate::streams::{Watched, hold_closed_streams};
+use collect_script::ScriptStop;
 use collect_top::{Hand1, Hands, Stop, collect_alone, put_fault};
-use disk_model::FileDisk;
+use device_core::OpenFault;
+use disk_model::{FileDisk, LockedFile};
 use field_io::{MemDialer, StdSink, StdSource, SystemClock};
 use field_text::{NoMemory, Text};
 use std::alloc::{AllocError, Global};
@@ -29,28 +34,56 @@ fn words<R: Env + Alloc<A = Global>>(rt: &R) -> Result<Vec<Text>, NoMemory> {
 fn hand(rt: &HostRuntime) -> Hand1<MemDialer, SystemClock<HostRuntime>> {
     let alloc = rt.alloc();
     Hand1 {
-        dialer: MemDialer::make(Vec::new(alloc), Vec::new(alloc)),
+        dialer: MemDialer::make(alloc, Vec::new(alloc), Vec::new(alloc)),
         clock: SystemClock::new(*rt),
     }
 }
 
+// Says on the standard error what a number hides. Where that can't be written, the number has to do.
+fn explain(rt: &HostRuntime, what: &str, trouble: Option<&io::Error>) {
+    let _ = match trouble {
+        Some(error) => eprintln!(rt; "collect: {what}: {error}"),
+        None => eprintln!(rt; "collect: {what}"),
+    };
+}
+
+// Ends before the top call, with the line of the stop.
+fn stopped<W: io::Write>(output: &mut W, stop: Stop) -> ExitCode {
+    let _ = put_fault(&mut StdSink::new(output), stop);
+    ExitCode::from(stop.status())
+}
+
 fn main(rt: HostRuntime) -> ExitCode {
-    let mut source = StdSource::new(rt.stdin());
-    let mut sink = StdSink::new(io::writer(&rt));
+    let mut input = Watched::new(rt.stdin());
+    let mut output = Watched::new(io::writer(&rt));
+    if let Err(error) = hold_closed_streams(&rt) {
+        explain(&rt, "the null device", Some(&error));
+        return stopped(&mut output, Stop::Opening(OpenFault::DiskFault));
+    }
     let words = match words(&rt) {
         Ok(words) => words,
-        Err(NoMemory) => {
-            let _ = put_fault(&mut sink, Stop::NoMemory);
-            return ExitCode::from(Stop::NoMemory.status());
-        }
+        Err(NoMemory) => return stopped(&mut output, Stop::Script(ScriptStop::NoMemory)),
     };
-    let disk = FileDisk::open(&rt, FOLDER, JOURNAL);
+    let disk = FileDisk::new(LockedFile {
+        rt,
+        folder: FOLDER,
+        path: JOURNAL,
+    });
     let hands = Hands {
         script: hand(&rt),
         sender: hand(&rt),
         updater: hand(&rt),
         lister: hand(&rt),
     };
+    let mut source = StdSource::new(&mut input);
+    let mut sink = StdSink::new(&mut output);
     let done = collect_alone(rt.alloc(), &words, &mut source, &mut sink, disk, hands);
+    match done.status {
+        2 => explain(&rt, "the command words are `run` and `log`", None),
+        3 => explain(&rt, "standard input", input.trouble.as_ref()),
+        4 => explain(&rt, "standard output", output.trouble.as_ref()),
+        5 => explain(&rt, JOURNAL, done.disk.trouble()),
+        _ => {}
+    }
     ExitCode::from(done.status)
 }

@@ -2,5 +2,9 @@ pub mod Lines
 pub mod Words
 pub mod Parts
 pub mod Printed
+pub mod Rows
 pub mod Line
+pub mod Settings
 pub mod Answers
+pub mod Refusals
+pub mod Log

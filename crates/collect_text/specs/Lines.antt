@@ -1,5 +1,6 @@
--- How the bytes of a script are cut into lines.
-use Rattle.std.specs.Prelude.{ℕ, List, [], ◌∷◌, if◌then◌else◌, ◌==◌}
+-- How the bytes of a script are cut into lines, and how a line is printed.
+use Rattle.std.specs.Prelude.{ℕ, List, [], ◌∷◌, ◌++◌, if◌then◌else◌, ◌==◌, codes}
+use Rattle.std.specs.Fmt.{decimal}
 
 -- a byte in front of the first list
 abbrev pub in_front : ℕ → List (List ℕ) → List (List ℕ)
@@ -16,3 +17,7 @@ abbrev pub without_return : List ℕ → List ℕ
 without_return [] = []
 without_return (b ∷ []) = if b == 13 then [] else b ∷ []
 without_return (b ∷ c ∷ bs) = b ∷ without_return (c ∷ bs)
+
+-- a line that begins with a position
+abbrev pub line_at : ℕ → List ℕ → List ℕ
+line_at position text = decimal position ++ codes " " ++ text ++ codes "\n"

@@ -1,5 +1,6 @@
 -- How a text is printed in a line.
-use Rattle.std.specs.Prelude.{ℕ, ◌/◌, ◌%◌, List, [], ◌∷◌, ◌++◌, length, Bool, not, ◌&&◌, ◌||◌, if◌then◌else◌, ◌==◌, nat_lt, nat_le, IsTrue, codes}
+use Rattle.std.specs.Prelude.{ℕ, ◌/◌, ◌%◌, List, [], ◌∷◌, ◌++◌, length, Bool, not, ◌&&◌, ◌||◌, if◌then◌else◌, ◌==◌}
+use Rattle.std.specs.Prelude.{nat_lt, nat_le, IsTrue, codes}
 use Rattle.std.specs.List.{flat_map, list_all}
 use Rattle.std.specs.Char.{digit_char}
 use Rattle.std.specs.Str.{IsUtf8}
@@ -8,8 +9,8 @@ use Rattle.collect_text.specs.Words.{is_bare}
 abbrev pub is_bare_word : List ℕ → Bool
 is_bare_word text = not (length text == 0) && list_all is_bare text
 
--- a byte between quotes: the backslash, the quote, the line feed, the carriage return and the tab by a letter, any other
--- byte below 32 as `\x` and two hexadecimal digits in lower case
+-- a byte between quotes: the backslash, the quote, the line feed, the carriage return and the tab by a letter, any
+-- other byte below 32 as `\x` and two hexadecimal digits in lower case
 abbrev pub escape : ℕ → List ℕ
 escape b =
     if b == 92 then codes "\\\\"

@@ -3,14 +3,21 @@
 
 mod line;
 mod lines;
+mod log;
 mod print;
 mod printed;
+mod refusals;
+mod rows;
+mod settings;
 #[cfg(test)]
 mod tests;
 mod word;
 
-pub use line::{Line, read_line};
+pub use line::{Line, Shape, read_line};
 pub use lines::{next_line, without_return};
-pub use print::{print_answer, print_entry, print_refused, print_word};
+pub use log::print_entry;
+pub use print::{print_answer, print_word};
 pub use printed::{print_text, printed_words_are_read};
+pub use refusals::print_refused;
+pub use rows::Asked;
 pub use word::{is_skipped, words};

@@ -1,5 +1,7 @@
 use crate::*;
-use field_text::Text;
+use device_rules::{Answer, Query, Refused, Settings};
+use entry_form::{Command, Entry, Hand};
+use field_text::{Mode, Text};
 use std::test::Fail;
 
 // Each line, a bar behind it.
@@ -119,5 +121,52 @@ fn texts_are_printed(rt: HostRuntime) -> Result<(), Fail> {
         assert_eq!(rt; &out[2..], want);
     }
     printed_words_are_read();
+    Ok(())
+}
+
+#[test]
+fn lines_have_meanings(rt: HostRuntime) -> Result<(), Fail> {
+    let alloc = rt.alloc();
+    assert!(rt; matches!(read_line(alloc, b" quit \r")?, Line::Quit));
+    assert!(rt;
+        matches!(
+            read_line(alloc, b"show settings")?,
+            Line::Look(Query::Settings)
+        )
+    );
+    assert!(rt; matches!(read_line(alloc, b"quit quit")?, Line::NotBuilt));
+    let exact = read_line(alloc, b"set \"mode\" exact")?;
+    assert!(rt; matches!(exact, Line::Give(Command::UpdateMode(Mode::Exact))));
+    assert!(rt; matches!(exact.shape()?, Shape::Plain));
+    assert!(rt; matches!(Line::Give(Command::SaveDraft).shape()?, Shape::Saved));
+    Ok(())
+}
+
+#[test]
+fn answers_are_printed(rt: HostRuntime) -> Result<(), Fail> {
+    let alloc = rt.alloc();
+    let mut out = Vec::new(alloc);
+    print_answer(alloc, 2, &Shape::Plain, &Answer::Done, &mut out)?;
+    let settings = Settings {
+        mode: Mode::Previous,
+        auto_send: true,
+    };
+    print_answer(
+        alloc,
+        2,
+        &Shape::Plain,
+        &Answer::Settings(settings),
+        &mut out,
+    )?;
+    print_refused(alloc, 10, &Refused::BadValue, &mut out)?;
+    print_word(alloc, 10, &Line::Quit, &mut out)?;
+    let entry = Entry::Done {
+        hand: Hand::Lister,
+        command: Command::SaveDraft,
+    };
+    print_entry(alloc, 1, &entry, &mut out)?;
+    let want =
+        b"2 ok\n2 settings mode previous autosend on\n10 refused 1 value\n10 bye\n1 lister savedraft\n";
+    assert_eq!(rt; out.as_slice(), want.as_slice());
     Ok(())
 }

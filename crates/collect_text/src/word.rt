@@ -1,6 +1,8 @@
-ghost use Rattle.std.specs.Prelude.{◌≡◌, ◌≢◌, ◌↔◌, [], ◌∷◌, ◌<◌, ◌≤◌, length, IsTrue, IfOk, IfSome, MatchOption, Some, None, slice_index, true, false};
+ghost use Rattle.std.specs.Prelude.{◌≡◌, ◌≢◌, ◌↔◌, [], ◌∷◌, ◌<◌, ◌≤◌, length, IsTrue, IfOk, IfSome, MatchOption};
+ghost use Rattle.std.specs.Prelude.{Some, None, slice_index, true, false};
 ghost use Rattle.std.specs.Str.{is_utf8};
-ghost use Rattle.collect_text.specs.Words.{is_bare, unescaped, spelled, between, quoted, bare, closed, byte_then, words_of, is_comment, is_skipped};
+ghost use Rattle.collect_text.specs.Words.{is_bare, unescaped, spelled, between, quoted, bare, closed, byte_then};
+ghost use Rattle.collect_text.specs.Words.{words_of, is_comment, is_skipped};
 ghost use Rattle.collect_text.specs.Parts.{word_then, ends_word};
 
 use field_text::{Items, NoMemory, Text};
@@ -133,7 +135,8 @@ fn raw_word(alloc: Global, bytes: &[u8]) -> Result<Option<(Vec<u8>, &[u8])>, NoM
 
 // The text of a word, none where its bytes are no UTF-8.
 fn text_of(word: Vec<u8>) -> Option<Text>
-    ensures { MatchOption result (is_utf8 word.items ≡ false) (λ text. (is_utf8 word.items ≡ true) × (text ≡ word.items)) }
+    ensures { MatchOption result (is_utf8 word.items ≡ false)
+        (λ text. (is_utf8 word.items ≡ true) × (text ≡ word.items)) }
 {
     match String::from_utf8(word) {
         Ok(text) => Some(Text::from_string(text)),

@@ -1,382 +1,260 @@
--- What each status says, from how a call ended.
-use Rattle.std.proofs.Common.{◌≡◌, ◌≢◌, ◌⊎◌, ℕ, zero, suc, ◌+◌, ◌≤◌, ◌<◌, List, [], ◌∷◌, Result, Bool, take, ◌++◌, length, Option, Some, None, IfSome, IsSome, Ok, Err, inl, inr, ⊎_elim, refl, ap, sym, ◌∙◌, subst, arith, length-append}
-use Rattle.std.specs.Prelude.{option_to_list}
-use Rattle.std.proofs.lemmas.List.{append-nil}
+-- The causes of each end.
+use Rattle.std.proofs.Common.{◌≡◌, ◌≢◌, ◌⊎◌, ⊎_elim, inl, inr, ℕ, ◌+◌, ◌≤◌, ◌<◌, List, [], ◌++◌, length, Option, Some, None, Result, Ok, Err, refl, ap, sym, ◌∙◌, subst, arith, append_assoc, length-append}
+use Rattle.std.specs.Prelude.{IfSome, IsSome, take}
+use Rattle.field_io.specs.Causes.{Rose}
 use Rattle.entry_form.specs.declared.entry.Entry.{Entry}
 use Rattle.device_journal.specs.declared.fault.OpenFault.{OpenFault}
 use Rattle.device_journal.specs.declared.fault.OpenFault.TheVariants as opening
-use Rattle.device_core.specs.declared.trail.Trail.{Trail}
-use Rattle.device_journal.specs.Frames.{end_of, limit}
-use Rattle.entry_codec.specs.Spelling.{spelling}
-use Rattle.device_core.specs.Faults.{ContentReadsAs, IsFullFor}
-use Rattle.device_core.specs.Images.{ReadsAs, payloads_of}
+use Rattle.device_rules.specs.declared.trail.Trail.{Trail}
+use Rattle.device_rules.specs.Trail.{entries_of}
+use Rattle.device_core.specs.Faults.{ContentReadsAs, IsFull, IsFullFor, IsOpenFault}
+use Rattle.device_core.specs.Images.{ReadsAs}
 use Rattle.device_core.proofs.Once.{reads_once}
-use Rattle.device_core.proofs.Payloads.{end_of-push, payloads-push}
-use Rattle.device_core.specs.State.{initial}
-use Rattle.device_core.specs.Trail.{entries_of}
-use Rattle.collect_top.specs.declared.stop.Stop.TheVariants as stops
-use Rattle.collect_top.specs.Crash.{Images, CrashPrefix}
-use Rattle.collect_top.specs.Headline.{End, end_status, BeginsAt, FitsWithRoom, HasPrinted, HasRoom, HasScript, HasTold, IsFullOpening, PutsFault, Finishes, SerialRun, PrintedAnswers, StatusCauses, IsCause, IsKnown, IsLog, IsRun, IsWhole, is_log, IsOpenedBy, FoundIs, Count, Rises, IsCalm, own_opening}
-use Rattle.collect_top.specs.Run.{LeavesCall}
-use Rattle.collect_top.proofs.Logs.{take_next}
-use Rattle.collect_top.proofs.Rooms.{own_size, room_of_script}
-use Rattle.collect_top.proofs.Runs.{not_both}
-use Rattle.collect_top.specs.Script.{script_lines, most_bytes, Taken}
-use Rattle.collect_top.specs.Session.{KeepsSink, room_of_lines}
+use Rattle.line_io.specs.Script.{IsUncut, Taken, longest_line, most_bytes}
+use Rattle.device_rules.specs.declared.state.State.{State}
+use Rattle.collect_text.specs.declared.line.Line.{Line}
+use Rattle.collect_script.specs.declared.stop.ScriptStop.{ScriptStop}
+use Rattle.collect_script.specs.declared.stop.ScriptStop.TheVariants as script
+use Rattle.collect_script.specs.Ends.{CantAnswer, CantRead, Ends, ScriptEnd, Streams}
+use Rattle.collect_script.specs.Ends as ends
+use Rattle.collect_script.specs.Script.{IsPastLimit, IsTooLong, Reads, Spells, by_end, by_feeds, ended}
+use Rattle.collect_top.specs.declared.stop.Stop.TheVariants.{Opening, Script, Usage}
+use Rattle.collect_top.specs.declared.words.Work.{Work}
+use Rattle.collect_top.specs.Log.{LogsEntries}
+use Rattle.collect_top.specs.Log as log
+use Rattle.collect_top.specs.Outside.{Images, Outside, streams_of}
+use Rattle.collect_top.specs.Parts.{Begins, Continues, Prints, PutsStop, own_opening}
+use Rattle.collect_top.specs.Parts as parts
+use Rattle.collect_top.specs.Run.{HasRun}
+use Rattle.collect_top.specs.Status.{Completes, EndCauses, IsCalm, IsWithinLimits}
+use Rattle.collect_top.specs.Status as status
+use Rattle.collect_top.specs.Stop.{End, end_of_script}
 
--- an image reads as entries, or something is wrong with it
-not_both_ways : (image : List ℕ) (found : List Entry) (fault : OpenFault) → ReadsAs image (Ok found) → ReadsAs image (Err fault) → ⊥
-not_both_ways image found fault good bad = absurd (cc (reads_once image (Ok found) (Err fault) good bad))
+-- ---- the script
 
--- the line of the stop behind the answers
-pub prints_all : (log : Bool) (entries : List Entry) (first : ℕ) (script : List ℕ) (old between new : Option (List ℕ)) (before mid now : ℕ) (end : End)
-    → HasTold log entries first (script_lines script) old between end → IsOpenedBy first end → KeepsSink before mid end → Finishes between new mid now end
-    → HasPrinted log entries first (script_lines script) old new before now end
-prints_all log entries first script old between new before mid now (Ok done) h opened kept f =
-    let P : Option (List ℕ) → Type 0 = λ n. HasTold log entries first (script_lines script) old n (Ok done) in (opened, subst P (sym f.0) h)
-prints_all log entries first script old between new before mid now (Err stops.WriteFault) h opened kept f =
-    let P : Option (List ℕ) → Type 0 = λ n. HasTold log entries first (script_lines script) old n (Err stops.WriteFault) in (opened, subst P (sym f.0) h)
-prints_all log entries first script old between new before mid now (Err stops.Usage) h opened kept f = (between, h, let P : ℕ → Type 0 = λ n. PutsFault between new n now stops.Usage in subst P kept f)
-prints_all log entries first script old between new before mid now (Err stops.ReadFault) h opened kept f = (between, h, let P : ℕ → Type 0 = λ n. PutsFault between new n now stops.ReadFault in subst P kept f)
-prints_all log entries first script old between new before mid now (Err stops.DiskFault) h opened kept f = (between, h, let P : ℕ → Type 0 = λ n. PutsFault between new n now stops.DiskFault in subst P kept f)
-prints_all log entries first script old between new before mid now (Err (stops.BadJournal at)) h opened kept f = (between, h, let P : ℕ → Type 0 = λ n. PutsFault between new n now (stops.BadJournal at) in subst P kept f)
-prints_all log entries first script old between new before mid now (Err (stops.BadEntry position)) h opened kept f = (between, h, let P : ℕ → Type 0 = λ n. PutsFault between new n now (stops.BadEntry position) in subst P kept f)
-prints_all log entries first script old between new before mid now (Err (stops.IllegalEntry position)) h opened kept f = (between, h, let P : ℕ → Type 0 = λ n. PutsFault between new n now (stops.IllegalEntry position) in subst P kept f)
-prints_all log entries first script old between new before mid now (Err stops.NoMemory) h opened kept f = (between, h, let P : ℕ → Type 0 = λ n. PutsFault between new n now stops.NoMemory in subst P kept f)
-prints_all log entries first script old between new before mid now (Err (stops.JournalFull size)) h opened kept f = (between, h, let P : ℕ → Type 0 = λ n. PutsFault between new n now (stops.JournalFull size) in subst P kept f)
-prints_all log entries first script old between new before mid now (Err stops.ScriptTooLong) h opened kept f = (between, h, let P : ℕ → Type 0 = λ n. PutsFault between new n now stops.ScriptTooLong in subst P kept f)
+module _ (start : State) (entries rest : List Entry) (before after : Streams) where
+  unread_source : (taken behind : List ℕ) (stop : ScriptStop) → CantRead start entries rest before after taken behind stop → stop ≡ script.ReadFault
+      → Rose before.source_faults after.source_faults
+  unread_source taken behind stop (ends.failed uncut rose) is = rose
+  unread_source taken behind stop (ends.long_line long calm) is = absurd (cc (is))
+  unread_source taken behind stop (ends.long_script long calm) is = absurd (cc (is))
+  unread_source taken behind stop (ends.starved calm) is = absurd (cc (is))
 
--- the count of the sink at the end of the run does for the end of the call
-pub causes_all : {D : Type 0} (words : List (List ℕ)) (script : List ℕ) (content : D → Option (List ℕ)) (disk : D) (source disk_count : Count) (before mid now : ℕ) (old new : Option (List ℕ)) (end : End)
-    → IsCause words script (ContentReadsAs content disk) source (record { before = before; now = mid }) disk_count end → Finishes old new mid now end
-    → IsCause words script (ContentReadsAs content disk) source (record { before = before; now = now }) disk_count end
-causes_all words script content disk source disk_count before mid now old new (Ok done) h f = h
-causes_all words script content disk source disk_count before mid now old new (Err stops.WriteFault) h f =
-    (h.0, h.1, let P : ℕ → Type 0 = λ n. Rises (record { before = before; now = n }) in subst P (sym f.1) h.2)
-causes_all words script content disk source disk_count before mid now old new (Err stops.Usage) h f = h
-causes_all words script content disk source disk_count before mid now old new (Err stops.ReadFault) h f = h
-causes_all words script content disk source disk_count before mid now old new (Err stops.DiskFault) h f = h
-causes_all words script content disk source disk_count before mid now old new (Err (stops.BadJournal at)) h f = h
-causes_all words script content disk source disk_count before mid now old new (Err (stops.BadEntry position)) h f = h
-causes_all words script content disk source disk_count before mid now old new (Err (stops.IllegalEntry position)) h f = h
-causes_all words script content disk source disk_count before mid now old new (Err stops.NoMemory) h f = h
-causes_all words script content disk source disk_count before mid now old new (Err (stops.JournalFull length)) h f = h
-causes_all words script content disk source disk_count before mid now old new (Err stops.ScriptTooLong) h f = h
+  unread_sink : (taken behind : List ℕ) (stop : ScriptStop) → CantRead start entries rest before after taken behind stop → stop ≡ script.WriteFault → ⊥
+  unread_sink taken behind stop (ends.failed uncut rose) is = cc (is)
+  unread_sink taken behind stop (ends.long_line long calm) is = cc (is)
+  unread_sink taken behind stop (ends.long_script long calm) is = cc (is)
+  unread_sink taken behind stop (ends.starved calm) is = cc (is)
 
--- a text told before and after, of which the front was taken
-taken_front : (left_old left_new : Option (List ℕ)) (script taken : List ℕ) → left_old ≡ Some script → Taken left_old left_new taken → IsSome left_new → (rest : List ℕ) × (script ≡ taken ++ rest) × (left_new ≡ Some rest)
-taken_front left_old None script taken is h some = absurd (cc)
-taken_front left_old (Some rest) script taken is h some = (rest, let e : Some script ≡ Some (taken ++ rest) = sym is ∙ h in cc, refl)
+  unanswered_source : (text : List ℕ) (last : ℕ) (line : Line) (stop : ScriptStop) → CantAnswer start entries rest before after text last line stop → stop ≡ script.ReadFault → ⊥
+  unanswered_source text last line stop (ends.faulted may puts) is = cc (is)
+  unanswered_source text last line stop (ends.starved_at may none puts) is = cc (is)
+  unanswered_source text last line stop (ends.full size past settled puts) is = cc (is)
+  unanswered_source text last line stop (ends.cut position piece front printed settled is_cut gained rose) is = cc (is)
 
-read_at : {D : Type 0} (content : D → Option (List ℕ)) (disk : D) (image : List ℕ) (r : Result (List Entry) OpenFault) → content disk ≡ Some image → ContentReadsAs content disk r → ReadsAs image r
-read_at content disk image r is h = let P : Option (List ℕ) → Type 0 = λ o. IfSome o (λ bytes. ReadsAs bytes r) in subst P is h
+  unanswered_sink : (text : List ℕ) (last : ℕ) (line : Line) (stop : ScriptStop) → CantAnswer start entries rest before after text last line stop → stop ≡ script.WriteFault
+      → Rose before.sink_faults after.sink_faults
+  unanswered_sink text last line stop (ends.faulted may puts) is = absurd (cc (is))
+  unanswered_sink text last line stop (ends.starved_at may none puts) is = absurd (cc (is))
+  unanswered_sink text last line stop (ends.full size past settled puts) is = absurd (cc (is))
+  unanswered_sink text last line stop (ends.cut position piece front printed settled is_cut gained rose) is = rose
 
-opened_reading : {D : Type 0} (content : D → Option (List ℕ)) (disk : D) (entries : List Entry) (first : ℕ) → 0 < first → FoundIs content disk entries first → (found : List Entry) × ContentReadsAs content disk (Ok found)
-opened_reading content disk entries zero some found = absurd (omega arith)
-opened_reading content disk entries (suc n) some found = (take n entries, found)
+  module _ (answered : List (List ℕ)) (text : List ℕ) (last : ℕ) where
+    pub ends_source : (end : ScriptEnd) → Ends start entries rest before after answered text last end → end ≡ Err script.ReadFault
+        → Rose before.source_faults after.source_faults
+    ends_source end (ends.finished behind reads whole settled puts calm) is = absurd (cc (is))
+    ends_source end (ends.unread behind stop reads on cause settled puts) is = unread_source reads.script behind stop cause (cc (is))
+    ends_source end (ends.unanswered line behind stop reads on cause calm) is = absurd (unanswered_source text last _ stop cause (cc (is)))
 
-module _ {D : Type 0} (words : List (List ℕ)) (content : D → Option (List ℕ)) (disk : D) (left_old left_new : Option (List ℕ)) (source sink disk_count : Count)
-    (taken : List ℕ) (entries : List Entry) (first : ℕ) (took : Taken left_old left_new taken) (found_is : FoundIs content disk entries first) where
-  abbrev Cause : End → Type 0
-  Cause = IsCause words taken (ContentReadsAs content disk) source sink disk_count
+    pub ends_sink : (end : ScriptEnd) → Ends start entries rest before after answered text last end → end ≡ Err script.WriteFault
+        → Rose before.sink_faults after.sink_faults
+    ends_sink end (ends.finished behind reads whole settled puts calm) is = absurd (cc (is))
+    ends_sink end (ends.unread behind stop reads on cause settled puts) is = absurd (unread_sink reads.script behind stop cause (cc (is)))
+    ends_sink end (ends.unanswered line behind stop reads on cause calm) is = unanswered_sink text last _ stop cause (cc (is))
 
-  usage_cause : (end : End) → Cause end → (end_status end ≡ 2 → ¬ (IsKnown words)) × (¬ (IsKnown words) → end_status end ≡ 2)
-  usage_cause (Ok done) h = (λ e. absurd (omega arith), λ unknown. absurd (unknown h.0))
-  usage_cause (Err stops.Usage) h = (λ e. h, λ unknown. refl)
-  usage_cause (Err stops.ReadFault) h = (λ e. absurd (omega arith), λ unknown. absurd (unknown (inl h.0)))
-  usage_cause (Err stops.WriteFault) h = (λ e. absurd (omega arith), λ unknown. absurd (unknown h.0))
-  usage_cause (Err stops.DiskFault) h = (λ e. absurd (omega arith), λ unknown. absurd (unknown h.0))
-  usage_cause (Err (stops.BadJournal at)) h = (λ e. absurd (omega arith), λ unknown. absurd (unknown h.0))
-  usage_cause (Err (stops.BadEntry position)) h = (λ e. absurd (omega arith), λ unknown. absurd (unknown h.0))
-  usage_cause (Err (stops.IllegalEntry position)) h = (λ e. absurd (omega arith), λ unknown. absurd (unknown h.0))
-  usage_cause (Err stops.NoMemory) h = (λ e. absurd (omega arith), λ unknown. absurd (unknown h))
-  usage_cause (Err (stops.JournalFull size)) h = (λ e. absurd (omega arith), λ unknown. absurd (unknown h.0))
-  usage_cause (Err stops.ScriptTooLong) h = (λ e. absurd (omega arith), λ unknown. absurd (unknown (inl h.0)))
+  -- a script that was taken of one within its limits
+  too_long : (whole taken behind left : List ℕ) (lines : List (List ℕ)) (source : Option (List ℕ)) → IsWithinLimits whole → whole ≡ taken ++ left
+      → Spells source taken lines behind → IsTooLong behind → ⊥
+  too_long whole taken behind left lines source within is (by_feeds spelled) long =
+      let front : List ℕ = ended lines in
+      let all : whole ≡ front ++ (long.front ++ (long.more ++ left)) =
+      is ∙ ap (λ xs. xs ++ left) (spelled ∙ ap (λ xs. front ++ xs) long.joined) ∙ append_assoc front (long.front ++ long.more) left
+      ∙ ap (λ xs. front ++ xs) (append_assoc long.front long.more left) in
+      let short = within.lines front long.front (long.more ++ left) all long.uncut in
+      let l = long.long in omega arith
+  too_long whole taken behind left lines source within is (by_end spelled none end) long =
+      let e : length behind ≡ 0 = ap length none in
+      let f : length behind ≡ length (long.front ++ long.more) = ap length long.joined in
+      let g = length-append long.front long.more in let l = long.long in omega arith
 
-  read_cause : (end : End) → Cause end → end_status end ≡ 3 → Rises source
-  read_cause (Ok done) h e = absurd (omega arith)
-  read_cause (Err stops.Usage) h e = absurd (omega arith)
-  read_cause (Err stops.ReadFault) h e = h.1
-  read_cause (Err stops.WriteFault) h e = absurd (omega arith)
-  read_cause (Err stops.DiskFault) h e = absurd (omega arith)
-  read_cause (Err (stops.BadJournal at)) h e = absurd (omega arith)
-  read_cause (Err (stops.BadEntry position)) h e = absurd (omega arith)
-  read_cause (Err (stops.IllegalEntry position)) h e = absurd (omega arith)
-  read_cause (Err stops.NoMemory) h e = absurd (omega arith)
-  read_cause (Err (stops.JournalFull size)) h e = absurd (omega arith)
-  read_cause (Err stops.ScriptTooLong) h e = absurd (omega arith)
+  past_limit : (whole taken behind left : List ℕ) → IsWithinLimits whole → whole ≡ taken ++ left → IsPastLimit taken behind → ⊥
+  past_limit whole taken behind left within is long =
+      let e : length whole ≡ length (taken ++ left) = ap length is in let f = length-append taken left in
+      let s = within.short in let l = long.long in let p = long.some in omega arith
 
-  write_cause : (end : End) → Cause end → end_status end ≡ 4 → Rises sink
-  write_cause (Ok done) h e = absurd (omega arith)
-  write_cause (Err stops.Usage) h e = absurd (omega arith)
-  write_cause (Err stops.ReadFault) h e = absurd (omega arith)
-  write_cause (Err stops.WriteFault) h e = h.2
-  write_cause (Err stops.DiskFault) h e = absurd (omega arith)
-  write_cause (Err (stops.BadJournal at)) h e = absurd (omega arith)
-  write_cause (Err (stops.BadEntry position)) h e = absurd (omega arith)
-  write_cause (Err (stops.IllegalEntry position)) h e = absurd (omega arith)
-  write_cause (Err stops.NoMemory) h e = absurd (omega arith)
-  write_cause (Err (stops.JournalFull size)) h e = absurd (omega arith)
-  write_cause (Err stops.ScriptTooLong) h e = absurd (omega arith)
+  taken_of : (whole left taken : List ℕ) (source_before source_after : Option (List ℕ)) → source_before ≡ Some whole → source_after ≡ Some left
+      → Taken source_before source_after taken → whole ≡ taken ++ left
+  taken_of whole left taken source_before source_after was now took =
+      let t : source_before ≡ Some (taken ++ left) = subst (λ (s : Option (List ℕ)). IfSome s (λ rest. source_before ≡ Some (taken ++ rest))) now took in
+      cc (was, t)
 
-  disk_cause : (end : End) → Cause end → end_status end ≡ 5 → Rises disk_count
-  disk_cause (Ok done) h e = absurd (omega arith)
-  disk_cause (Err stops.Usage) h e = absurd (omega arith)
-  disk_cause (Err stops.ReadFault) h e = absurd (omega arith)
-  disk_cause (Err stops.WriteFault) h e = absurd (omega arith)
-  disk_cause (Err stops.DiskFault) h e = h.2
-  disk_cause (Err (stops.BadJournal at)) h e = absurd (omega arith)
-  disk_cause (Err (stops.BadEntry position)) h e = absurd (omega arith)
-  disk_cause (Err (stops.IllegalEntry position)) h e = absurd (omega arith)
-  disk_cause (Err stops.NoMemory) h e = absurd (omega arith)
-  disk_cause (Err (stops.JournalFull size)) h e = absurd (omega arith)
-  disk_cause (Err stops.ScriptTooLong) h e = absurd (omega arith)
+  module _ (whole left : List ℕ) (was : before.left ≡ Some whole) (now : after.left ≡ Some left) (within : IsWithinLimits whole) (answered : List (List ℕ)) where
+    unread_within : (behind : List ℕ) (stop : ScriptStop) (reads : Reads before.left after.left answered behind) → CantRead start entries rest before after reads.script behind stop
+        → (stop ≢ script.LineTooLong) × (stop ≢ script.ScriptTooLong)
+    unread_within behind stop reads (ends.failed uncut rose) = (λ e. cc (e), λ e. cc (e))
+    unread_within behind stop reads (ends.long_line long calm) =
+        (λ e. too_long whole reads.script behind left answered after.left within (taken_of whole left reads.script before.left after.left was now reads.taken) reads.spells long, λ e. cc (e))
+    unread_within behind stop reads (ends.long_script long calm) =
+        (λ e. cc (e), λ e. past_limit whole reads.script behind left within (taken_of whole left reads.script before.left after.left was now reads.taken) long)
+    unread_within behind stop reads (ends.starved calm) = (λ e. cc (e), λ e. cc (e))
 
-  journal_cause : (end : End) → Cause end → end_status end ≡ 6 → (fault : OpenFault) × ContentReadsAs content disk (Err fault)
-  journal_cause (Ok done) h e = absurd (omega arith)
-  journal_cause (Err stops.Usage) h e = absurd (omega arith)
-  journal_cause (Err stops.ReadFault) h e = absurd (omega arith)
-  journal_cause (Err stops.WriteFault) h e = absurd (omega arith)
-  journal_cause (Err stops.DiskFault) h e = absurd (omega arith)
-  journal_cause (Err (stops.BadJournal at)) h e = (opening.BadJournal at, h.2)
-  journal_cause (Err (stops.BadEntry position)) h e = (opening.BadEntry position, h.2)
-  journal_cause (Err (stops.IllegalEntry position)) h e = (opening.IllegalEntry position, h.2)
-  journal_cause (Err stops.NoMemory) h e = absurd (omega arith)
-  journal_cause (Err (stops.JournalFull size)) h e = absurd (omega arith)
-  journal_cause (Err stops.ScriptTooLong) h e = absurd (omega arith)
+    unanswered_within : (text : List ℕ) (last : ℕ) (line : Line) (stop : ScriptStop) → CantAnswer start entries rest before after text last line stop
+        → (stop ≢ script.LineTooLong) × (stop ≢ script.ScriptTooLong)
+    unanswered_within text last line stop (ends.faulted may puts) = (λ e. cc (e), λ e. cc (e))
+    unanswered_within text last line stop (ends.starved_at may none puts) = (λ e. cc (e), λ e. cc (e))
+    unanswered_within text last line stop (ends.full size past settled puts) = (λ e. cc (e), λ e. cc (e))
+    unanswered_within text last line stop (ends.cut position piece front printed settled is_cut gained rose) = (λ e. cc (e), λ e. cc (e))
 
-  length_cause : (end : End) → Cause end → (script : List ℕ) → left_old ≡ Some script → IsSome left_new → end_status end ≡ 10 → most_bytes < length script
-  length_cause (Ok done) h script is told e = absurd (omega arith)
-  length_cause (Err stops.Usage) h script is told e = absurd (omega arith)
-  length_cause (Err stops.ReadFault) h script is told e = absurd (omega arith)
-  length_cause (Err stops.WriteFault) h script is told e = absurd (omega arith)
-  length_cause (Err stops.DiskFault) h script is told e = absurd (omega arith)
-  length_cause (Err (stops.BadJournal at)) h script is told e = absurd (omega arith)
-  length_cause (Err (stops.BadEntry position)) h script is told e = absurd (omega arith)
-  length_cause (Err (stops.IllegalEntry position)) h script is told e = absurd (omega arith)
-  length_cause (Err stops.NoMemory) h script is told e = absurd (omega arith)
-  length_cause (Err (stops.JournalFull size)) h script is told e = absurd (omega arith)
-  length_cause (Err stops.ScriptTooLong) h script is told e = let front = taken_front left_old left_new script taken is took told in let l = ap length front.1 ∙ length-append taken front.0 in let m = h.1 in omega arith
+    pub ends_within : (text : List ℕ) (last : ℕ) (end : ScriptEnd) → Ends start entries rest before after answered text last end
+        → (end ≢ Err script.LineTooLong) × (end ≢ Err script.ScriptTooLong)
+    ends_within text last end (ends.finished behind reads all settled puts calm) = (λ e. cc (e), λ e. cc (e))
+    ends_within text last end (ends.unread behind stop reads on cause settled puts) =
+        let w = unread_within behind stop reads cause in (λ e. w.0 (cc (e)), λ e. w.1 (cc (e)))
+    ends_within text last end (ends.unanswered line behind stop reads on cause calm) =
+        let w = unanswered_within text last _ stop cause in (λ e. w.0 (cc (e)), λ e. w.1 (cc (e)))
 
-  known_of : (script : List ℕ) → HasScript words source left_old left_new script → IsKnown words
-  known_of script (inl log) = inr log
-  known_of script (inr h) = inl h.0
+-- ---- the log
 
-  -- a script that is asked for can be read
-  script_of : (script : List ℕ) → IsRun words → HasScript words source left_old left_new script → IsCalm source × (left_old ≡ Some script) × IsSome left_new × (length script ≤ most_bytes)
-  script_of script run (inl log) = absurd (not_both words run log)
-  script_of script run (inr h) = (h.1, h.2, h.3, h.4)
+log_source : (entries : List Entry) (before after : Streams) (end : ScriptEnd) → LogsEntries entries before after end → end ≡ Err script.ReadFault → ⊥
+log_source entries before after end (log.logged gained same) is = cc (is)
+log_source entries before after end (log.cut front is_cut gained rose) is = cc (is)
+log_source entries before after end (log.starved gained same) is = cc (is)
 
-  -- a script within its limit isn't too long
-  not_too_long : (script : List ℕ) → IsRun words → length taken ≡ most_bytes + 1 → HasScript words source left_old left_new script → ⊥
-  not_too_long script run long has =
-      let h = script_of script run has in
-      let front = taken_front left_old left_new script taken h.1 took h.2 in
-      omega (arith, long, h.3, ap length front.1, length-append taken front.0)
+log_sink : (entries : List Entry) (before after : Streams) (end : ScriptEnd) → LogsEntries entries before after end → end ≡ Err script.WriteFault → Rose before.sink_faults after.sink_faults
+log_sink entries before after end (log.logged gained same) is = absurd (cc (is))
+log_sink entries before after end (log.cut front is_cut gained rose) is = rose
+log_sink entries before after end (log.starved gained same) is = absurd (cc (is))
 
-  journal_told : (end : End) → Cause end → IsOpenedBy first end → (script image : List ℕ) (fault : OpenFault) → HasScript words source left_old left_new script → IsCalm disk_count
-      → content disk ≡ Some image → ReadsAs image (Err fault) → (end_status end ≡ 6) ⊎ (end_status end ≡ 7)
-  journal_told (Ok done) h opened script image fault has calm_disk image_is bad = let good = opened_reading content disk entries first opened found_is in absurd (not_both_ways image good.0 fault (read_at content disk image (Ok good.0) image_is good.1) bad)
-  journal_told (Err stops.Usage) h opened script image fault has calm_disk image_is bad = absurd (h (known_of script has))
-  journal_told (Err stops.ReadFault) h opened script image fault has calm_disk image_is bad = absurd ((script_of script h.0 has).0 h.1)
-  journal_told (Err stops.WriteFault) h opened script image fault has calm_disk image_is bad = let good = opened_reading content disk entries first opened found_is in absurd (not_both_ways image good.0 fault (read_at content disk image (Ok good.0) image_is good.1) bad)
-  journal_told (Err stops.DiskFault) h opened script image fault has calm_disk image_is bad = absurd (calm_disk h.2)
-  journal_told (Err (stops.BadJournal at)) h opened script image fault has calm_disk image_is bad = inl refl
-  journal_told (Err (stops.BadEntry position)) h opened script image fault has calm_disk image_is bad = inl refl
-  journal_told (Err (stops.IllegalEntry position)) h opened script image fault has calm_disk image_is bad = inl refl
-  journal_told (Err stops.NoMemory) h opened script image fault has calm_disk image_is bad = inr refl
-  journal_told (Err (stops.JournalFull size)) h opened script image fault has calm_disk image_is bad = absurd (not_both_ways image h.2.0 fault (read_at content disk image (Ok h.2.0) image_is h.2.1) bad)
-  journal_told (Err stops.ScriptTooLong) h opened script image fault has calm_disk image_is bad = absurd (not_too_long script h.0 h.1 has)
+log_within : (entries : List Entry) (before after : Streams) (end : ScriptEnd) → LogsEntries entries before after end
+    → (end ≢ Err script.LineTooLong) × (end ≢ Err script.ScriptTooLong)
+log_within entries before after end (log.logged gained same) = (λ e. cc (e), λ e. cc (e))
+log_within entries before after end (log.cut front is_cut gained rose) = (λ e. cc (e), λ e. cc (e))
+log_within entries before after end (log.starved gained same) = (λ e. cc (e), λ e. cc (e))
 
-  short_script : (script : List ℕ) → left_old ≡ Some script → IsSome left_new → IfSome left_new (λ rest. rest ≡ []) → length taken ≤ most_bytes → most_bytes < length script → ⊥
-  short_script script is told whole short long =
-      let front = taken_front left_old left_new script taken is took told in
-      let P : Option (List ℕ) → Type 0 = λ o. IfSome o (λ rest. rest ≡ []) in
-      let none : front.0 ≡ [] = subst P front.2 whole in
-      let l = ap length front.1 ∙ length-append taken front.0 in
-      let z : length front.0 ≡ 0 = ap length none in
-      omega arith
+-- ---- the whole call
 
-  length_told : (end : End) → Cause end → (IsRun words → IsWhole left_new end) → (script : List ℕ) → IsRun words → IsCalm source → left_old ≡ Some script → IsSome left_new → most_bytes < length script
-      → (end_status end ≡ 10) ⊎ (end_status end ≡ 7)
-  length_told (Ok done) h whole script run calm is told long = absurd (short_script script is told (whole run) h.1 long)
-  length_told (Err stops.Usage) h whole script run calm is told long = absurd (h (inl run))
-  length_told (Err stops.ReadFault) h whole script run calm is told long = absurd (calm h.1)
-  length_told (Err stops.WriteFault) h whole script run calm is told long = absurd (short_script script is told (whole run) h.1 long)
-  length_told (Err stops.DiskFault) h whole script run calm is told long = absurd (short_script script is told (whole run) h.1 long)
-  length_told (Err (stops.BadJournal at)) h whole script run calm is told long = absurd (short_script script is told (whole run) h.1 long)
-  length_told (Err (stops.BadEntry position)) h whole script run calm is told long = absurd (short_script script is told (whole run) h.1 long)
-  length_told (Err (stops.IllegalEntry position)) h whole script run calm is told long = absurd (short_script script is told (whole run) h.1 long)
-  length_told (Err stops.NoMemory) h whole script run calm is told long = inr refl
-  length_told (Err (stops.JournalFull size)) h whole script run calm is told long = absurd (short_script script is told (whole run) h.1 long)
-  length_told (Err stops.ScriptTooLong) h whole script run calm is told long = inl refl
+script_end : (end : ScriptEnd) (stop : ScriptStop) → end_of_script end ≡ Err (Script stop) → end ≡ Err stop
+script_end (Ok done) stop is = absurd (cc (is))
+script_end (Err other) stop is = let e : other ≡ stop = cc (is) in ap Err e
 
-  complete : (end : End) → Cause end → (script image : List ℕ) (found : List Entry) → HasScript words source left_old left_new script → IsCalm sink → IsCalm disk_count
-      → content disk ≡ Some image → ReadsAs image (Ok found) → (end_status end ≡ 0) ⊎ ((end_status end ≡ 7) ⊎ (end_status end ≡ 9))
-  complete (Ok done) h script image found has calm_sink calm_disk image_is good = inl refl
-  complete (Err stops.Usage) h script image found has calm_sink calm_disk image_is good = absurd (h (known_of script has))
-  complete (Err stops.ReadFault) h script image found has calm_sink calm_disk image_is good = absurd ((script_of script h.0 has).0 h.1)
-  complete (Err stops.WriteFault) h script image found has calm_sink calm_disk image_is good = absurd (calm_sink h.2)
-  complete (Err stops.DiskFault) h script image found has calm_sink calm_disk image_is good = absurd (calm_disk h.2)
-  complete (Err (stops.BadJournal at)) h script image found has calm_sink calm_disk image_is good = absurd (not_both_ways image found (opening.BadJournal at) good (read_at content disk image (Err (opening.BadJournal at)) image_is h.2))
-  complete (Err (stops.BadEntry position)) h script image found has calm_sink calm_disk image_is good = absurd (not_both_ways image found (opening.BadEntry position) good (read_at content disk image (Err (opening.BadEntry position)) image_is h.2))
-  complete (Err (stops.IllegalEntry position)) h script image found has calm_sink calm_disk image_is good = absurd (not_both_ways image found (opening.IllegalEntry position) good (read_at content disk image (Err (opening.IllegalEntry position)) image_is h.2))
-  complete (Err stops.NoMemory) h script image found has calm_sink calm_disk image_is good = inr (inl refl)
-  complete (Err (stops.JournalFull size)) h script image found has calm_sink calm_disk image_is good = inr (inr refl)
-  complete (Err stops.ScriptTooLong) h script image found has calm_sink calm_disk image_is good = absurd (not_too_long script h.0 h.1 has)
+no_opening : (end : ScriptEnd) (fault : OpenFault) → end_of_script end ≡ Err (Opening fault) → ⊥
+no_opening (Ok done) fault is = cc (is)
+no_opening (Err other) fault is = cc (is)
 
-  -- how a call ended with status 9
-  full_status : (end : End) → end_status end ≡ 9 → (size : ℕ) × (end ≡ Err (stops.JournalFull size))
-  full_status (Ok done) e = absurd (omega arith)
-  full_status (Err stops.Usage) e = absurd (omega arith)
-  full_status (Err stops.ReadFault) e = absurd (omega arith)
-  full_status (Err stops.WriteFault) e = absurd (omega arith)
-  full_status (Err stops.DiskFault) e = absurd (omega arith)
-  full_status (Err (stops.BadJournal at)) e = absurd (omega arith)
-  full_status (Err (stops.BadEntry position)) e = absurd (omega arith)
-  full_status (Err (stops.IllegalEntry position)) e = absurd (omega arith)
-  full_status (Err stops.NoMemory) e = absurd (omega arith)
-  full_status (Err (stops.JournalFull size)) e = (size, refl)
-  full_status (Err stops.ScriptTooLong) e = absurd (omega arith)
+module _ (work : Work) (before between : Streams) (entries rest : List Entry) where
+  abbrev P : End → Option ℕ → Type 0
+  P = Prints (Some work) before between entries rest
 
-  -- what was taken is the whole script, where it was read whole
-  whole_script : (script : List ℕ) → left_old ≡ Some script → IsSome left_new → IfSome left_new (λ rest. rest ≡ []) → taken ≡ script
-  whole_script script is told whole =
-      let front = taken_front left_old left_new script taken is took told in
-      let none : front.0 ≡ [] = subst (λ (o : Option (List ℕ)). IfSome o (λ rest. rest ≡ [])) front.2 whole in
-      sym (front.1 ∙ ap (λ rest. taken ++ rest) none ∙ append-nil taken)
-
-  -- the lines that were read take no more room than those of the script
-  taken_room : (script : List ℕ) → (IsRun words → IfSome left_new (λ rest. rest ≡ [])) → (IsLog words → taken ≡ []) → HasScript words source left_old left_new script
-      → room_of_lines (script_lines taken) ≤ room_of_lines (script_lines script)
-  taken_room script whole unread (inl log) = let e : room_of_lines (script_lines taken) ≡ 0 = ap (λ l. room_of_lines (script_lines l)) (unread log) in omega (arith, e)
-  taken_room script whole unread (inr h) = let e = ap (λ l. room_of_lines (script_lines l)) (whole_script script h.2 h.3 (whole h.0)) in omega (arith, e)
-
-  -- where the journal has room for the opening and the commands of all lines, none of them is too long
-  never_full : (size : ℕ) → (IsRun words → IsWhole left_new (Err (stops.JournalFull size))) → (IsLog words → taken ≡ []) → BeginsAt entries first → (first ≡ 0 → IsFullFor content disk own_opening size) → (HasRoom entries first (script_lines taken) → ⊥)
-      → (script image : List ℕ) (found : List Entry) → HasScript words source left_old left_new script → content disk ≡ Some image → ReadsAs image (Ok found)
-      → end_of (payloads_of found) + 5 + length (spelling own_opening) + room_of_lines (script_lines script) ≤ limit → ⊥
-  never_full size whole unread begins full fits script image found has image_is good room =
-      by first begins found_is full fits
+  pub prints_usage : (end : End) (found : Option ℕ) → P end found → end ≡ Err Usage → ⊥
+  prints_usage end found (parts.usage none same) is = absurd (cc (none))
+  prints_usage end found (parts.unopened asked fault w same) is = cc (is)
+  prints_usage end found (parts.answers n e w answers full) is = no_usage e is
     where
-      same : (other : List Entry) → ContentReadsAs content disk (Ok other) → other ≡ found
-      same other reads = cc (reads_once image (Ok other) (Ok found) (read_at content disk image (Ok other) image_is reads) good)
-
-      by : (n : ℕ) → BeginsAt entries n → FoundIs content disk entries n → (n ≡ 0 → IsFullFor content disk own_opening size) → (HasRoom entries n (script_lines taken) → ⊥) → ⊥
-      by zero b f opening_full behind =
-          let h = opening_full refl in
-          let e : end_of (payloads_of h.found) ≡ end_of (payloads_of found) = ap (λ l. end_of (payloads_of l)) (same h.found h.reads) in
-          let s = h.full.size_is in
-          let p = h.full.past in
-          omega (arith, e, s, p, room)
-      by (suc n) b f opening_full behind =
-          let front : take (suc n) entries ≡ found ++ own_opening ∷ [] = take_next entries n own_opening b.0 ∙ ap (λ l. l ++ own_opening ∷ []) (same (take n entries) f) in
-          let e : end_of (payloads_of (take (suc n) entries)) ≡ end_of (payloads_of found) + 5 + length (spelling own_opening) =
-          ap (λ l. end_of (payloads_of l)) front ∙ ap end_of (payloads-push found own_opening) ∙ end_of-push (payloads_of found) (spelling own_opening) in
-          behind (omega (arith, e, room, taken_room script whole unread has))
-
-  fits_all : (end : End) → (IsRun words → IsWhole left_new end) → (IsLog words → taken ≡ []) → BeginsAt entries first → IsFullOpening content disk first end → FitsWithRoom entries first (script_lines taken) end
-      → (script image : List ℕ) (found : List Entry) → HasScript words source left_old left_new script → content disk ≡ Some image → ReadsAs image (Ok found)
-      → end_of (payloads_of found) + 5 + length (spelling own_opening) + room_of_lines (script_lines script) ≤ limit → end_status end ≢ 9
-  fits_all end whole unread begins full fits script image found has image_is good room nine =
-      let h = full_status end nine in
-      never_full h.0 (λ run. subst (IsWhole left_new) h.1 (whole run)) unread begins (λ zero. full zero h.0 h.1) (λ some. fits some h.0 h.1) script image found has image_is good room
-
-  -- a journal without entries
-  empty : (image : List ℕ) → length image ≤ 9 → ReadsAs image (Ok [])
-  empty image le = (record { fit = tt; frames = inl (le, refl) }, (initial, refl))
-
-  -- the opening and the commands of a script have room in it
-  empty_room : (script : List ℕ) → length script ≤ most_bytes → end_of (payloads_of []) + 5 + length (spelling own_opening) + room_of_lines (script_lines script) ≤ limit
-  empty_room script le = omega (arith, le, own_size, room_of_script script)
-
-  complete_empty : (end : End) → Cause end
-      → ((script image : List ℕ) (found : List Entry) → HasScript words source left_old left_new script → content disk ≡ Some image → ReadsAs image (Ok found)
-      → end_of (payloads_of found) + 5 + length (spelling own_opening) + room_of_lines (script_lines script) ≤ limit → end_status end ≢ 9)
-      → (script image : List ℕ) → HasScript words source left_old left_new script → IsCalm sink → IsCalm disk_count → content disk ≡ Some image → length image ≤ 9 → (end_status end ≡ 0) ⊎ (end_status end ≡ 7)
-  complete_empty end h fits script image has calm_sink calm_disk image_is le =
-      ⊎_elim (λ zero. inl zero) (λ others. ⊎_elim (λ seven. inr seven) (λ nine. absurd (never has nine)) others) (complete end h script image [] has calm_sink calm_disk image_is (empty image le))
+      no_usage : (e : ScriptEnd) → end_of_script e ≡ Err Usage → ⊥
+      no_usage (Ok done) is = cc (is)
+      no_usage (Err other) is = cc (is)
+  prints_usage end found (parts.logs n e w long none logs left faults) is = no_use e is
     where
-      never : HasScript words source left_old left_new script → end_status end ≡ 9 → ⊥
-      never (inl log) nine = fits [] image [] (inl log) image_is (empty image le) (empty_room [] (omega arith)) nine
-      never (inr s) nine = fits script image [] (inr s) image_is (empty image le) (empty_room script s.4) nine
+      no_use : (e : ScriptEnd) → end_of_script e ≡ Err Usage → ⊥
+      no_use (Ok done) is = cc (is)
+      no_use (Err other) is = cc (is)
 
-  pub status_causes : (end : End) → Cause end → (IsRun words → IsWhole left_new end) → (IsLog words → taken ≡ []) → IsOpenedBy first end → BeginsAt entries first → IsFullOpening content disk first end → FitsWithRoom entries first (script_lines taken) end
-      → StatusCauses words content disk left_old left_new source sink disk_count (end_status end)
-  status_causes end h whole unread opened begins full fits = record {
-    usage = usage_cause end h;
-    read_fault = read_cause end h;
-    write_fault = write_cause end h;
-    disk_fault = disk_cause end h;
-    bad_journal = journal_cause end h;
-    too_long = length_cause end h;
-    journal_told = journal_told end h opened;
-    length_told = length_told end h whole;
-    complete = complete end h;
-    complete_empty = complete_empty end h (fits_all end whole unread begins full fits);
-    fits = fits_all end whole unread begins full fits;
-  }
+  pub prints_source : (end : End) (found : Option ℕ) → P end found → end ≡ Err (Script script.ReadFault) → Rose before.source_faults between.source_faults
+  prints_source end found (parts.usage none same) is = absurd (cc (is))
+  prints_source end found (parts.unopened asked fault w same) is = absurd (cc (is))
+  prints_source end found (parts.answers n e w answers full) is = ends_source _ entries rest before between answers.answered answers.text answers.last e answers.ends (script_end e script.ReadFault is)
+  prints_source end found (parts.logs n e w long none logs left faults) is = absurd (log_source entries before between e logs (script_end e script.ReadFault is))
 
-opened_at : (first : ℕ) (end : End) → IsOpenedBy first end → (end_status end ≡ 0) ⊎ (end_status end ≡ 4) → 0 < first
-opened_at first (Ok done) h e = h
-opened_at first (Err stops.Usage) h e = absurd (⊎_elim (λ a. omega arith) (λ a. omega arith) e)
-opened_at first (Err stops.ReadFault) h e = absurd (⊎_elim (λ a. omega arith) (λ a. omega arith) e)
-opened_at first (Err stops.WriteFault) h e = h
-opened_at first (Err stops.DiskFault) h e = absurd (⊎_elim (λ a. omega arith) (λ a. omega arith) e)
-opened_at first (Err (stops.BadJournal at)) h e = absurd (⊎_elim (λ a. omega arith) (λ a. omega arith) e)
-opened_at first (Err (stops.BadEntry position)) h e = absurd (⊎_elim (λ a. omega arith) (λ a. omega arith) e)
-opened_at first (Err (stops.IllegalEntry position)) h e = absurd (⊎_elim (λ a. omega arith) (λ a. omega arith) e)
-opened_at first (Err stops.NoMemory) h e = absurd (⊎_elim (λ a. omega arith) (λ a. omega arith) e)
-opened_at first (Err (stops.JournalFull size)) h e = absurd (⊎_elim (λ a. omega arith) (λ a. omega arith) e)
-opened_at first (Err stops.ScriptTooLong) h e = absurd (⊎_elim (λ a. omega arith) (λ a. omega arith) e)
+  pub prints_sink : (end : End) (found : Option ℕ) → P end found → end ≡ Err (Script script.WriteFault) → Rose before.sink_faults between.sink_faults
+  prints_sink end found (parts.usage none same) is = absurd (cc (is))
+  prints_sink end found (parts.unopened asked fault w same) is = absurd (cc (is))
+  prints_sink end found (parts.answers n e w answers full) is = ends_sink _ entries rest before between answers.answered answers.text answers.last e answers.ends (script_end e script.WriteFault is)
+  prints_sink end found (parts.logs n e w long none logs left faults) is = log_sink entries before between e logs (script_end e script.WriteFault is)
 
-module _ {D : Type 0} (words : List (List ℕ)) (images : Images D) (content : D → Option (List ℕ)) (disk new : D) (left_old left_new held_old held_mid held_new : Option (List ℕ)) (source disk_count : Count)
-    (before mid now status : ℕ) (trail : Trail) (end : End)
-    (left : LeavesCall words images content disk new left_old left_new held_old held_mid source (record { before = before; now = mid }) disk_count trail end)
-    (finished : Finishes held_mid held_new mid now end) (status_is : status ≡ end_status end) where
-  pub printed_answers : PrintedAnswers words content disk left_old left_new held_old held_new source (record { before = before; now = now }) disk_count status trail
-  printed_answers = record {
-    end = end;
-    status_is = status_is;
-    script = left.script;
-    taken = left.taken;
-    whole = left.whole;
-    unread = left.unread;
-    first = left.first;
-    begins = left.begins;
-    opened = left.opened;
-    printed = prints_all (is_log words) (entries_of trail.entries) left.first left.script held_old held_mid held_new before mid now end left.told left.opened left.kept finished;
-    cause = causes_all words left.script content disk source disk_count before mid now held_mid held_new end left.cause finished;
-    full = left.full;
-  }
+  pub prints_within : (end : End) (found : Option ℕ) (whole left : List ℕ) → before.left ≡ Some whole → between.left ≡ Some left → IsWithinLimits whole → P end found
+      → (end ≢ Err (Script script.LineTooLong)) × (end ≢ Err (Script script.ScriptTooLong))
+  prints_within end found whole left was now within (parts.usage none same) = (λ e. cc (e), λ e. cc (e))
+  prints_within end found whole left was now within (parts.unopened asked fault w same) = (λ e. cc (e), λ e. cc (e))
+  prints_within end found whole left was now within (parts.answers n e w answers full) =
+      let r = ends_within _ entries rest before between whole left was now within answers.answered answers.text answers.last e answers.ends in
+      (λ i. r.0 (script_end e script.LineTooLong i), λ i. r.1 (script_end e script.ScriptTooLong i))
+  prints_within end found whole left was now within (parts.logs n e w long none logs same faults) =
+      let r = log_within entries before between e logs in
+      (λ i. r.0 (script_end e script.LineTooLong i), λ i. r.1 (script_end e script.ScriptTooLong i))
 
-  pub crash_prefix : CrashPrefix images words content disk new left_old left_new held_old held_new (record { before = before; now = now }) status trail
-  crash_prefix = record {
-    end = end;
-    status_is = status_is;
-    script = left.script;
-    taken = left.taken;
-    first = left.first;
-    rest = left.crash.rest;
-    given = left.crash.given;
-    begins = left.crash.begins;
-    legal = left.crash.legal;
-    printed = prints_all (is_log words) (entries_of trail.entries ++ option_to_list left.crash.rest) left.first left.script held_old held_mid held_new before mid now end left.crash.told left.opened left.kept finished;
-    leaves = left.crash.leaves;
-  }
+  -- where the device was opened, opening found entries
+  pub prints_found : (end : End) (found : Option ℕ) → P end found → (fault : OpenFault) → end ≡ Err (Opening fault) → found ≡ None
+  prints_found end found (parts.usage none same) fault is = refl
+  prints_found end found (parts.unopened asked other w same) fault is = refl
+  prints_found end found (parts.answers n e w answers full) fault is = absurd (no_opening e fault is)
+  prints_found end found (parts.logs n e w long none logs left faults) fault is = absurd (no_opening e fault is)
 
-  pub causes_of_status : StatusCauses words content disk left_old left_new source (record { before = before; now = now }) disk_count status
-  causes_of_status =
-      let P : ℕ → Type 0 = StatusCauses words content disk left_old left_new source (record { before = before; now = now }) disk_count in
-      subst P (sym status_is) (status_causes words content disk left_old left_new source (record { before = before; now = now }) disk_count left.script (entries_of trail.entries) left.first left.taken left.found
-      end (causes_all words left.script content disk source disk_count before mid now held_mid held_new end left.cause finished) left.whole left.unread left.opened left.begins left.full left.fits)
+-- the streams behind the line of a stop
+pub stop_left : (between after : Streams) (end : End) → PutsStop between after end → after.left ≡ between.left
+stop_left between after end (parts.none same) = ap (λ s. s.left) same
+stop_left between after end (parts.sink same) = ap (λ s. s.left) same
+stop_left between after end (parts.whole stop gained same left faults) = left
+stop_left between after end (parts.cut stop front is_cut gained rose later left faults) = left
 
-  pub serial_run : SerialRun content disk status trail
-  serial_run = record {
-    start = left.start;
-    legal = left.legal;
-    first = left.first;
-    begins = left.begins;
-    found = left.found;
-    opened = λ e. opened_at left.first end left.opened (⊎_elim (λ a. inl (sym status_is ∙ a)) (λ a. inr (sym status_is ∙ a)) e);
-  }
+pub stop_source : (between after : Streams) (end : End) → PutsStop between after end → after.source_faults ≡ between.source_faults
+stop_source between after end (parts.none same) = ap (λ s. s.source_faults) same
+stop_source between after end (parts.sink same) = ap (λ s. s.source_faults) same
+stop_source between after end (parts.whole stop gained same left faults) = faults
+stop_source between after end (parts.cut stop front is_cut gained rose later left faults) = faults
+
+pub stop_sink : (between after : Streams) (end : End) → PutsStop between after end → between.sink_faults ≤ after.sink_faults
+stop_sink between after end (parts.none same) = let e = ap (λ (s : Streams). s.sink_faults) same in omega arith
+stop_sink between after end (parts.sink same) = let e = ap (λ (s : Streams). s.sink_faults) same in omega arith
+stop_sink between after end (parts.whole stop gained same left faults) = omega (arith, same)
+stop_sink between after end (parts.cut stop front is_cut gained rose later left faults) = later
+
+-- a count that has risen and doesn't fall
+pub rose_on : (a b c : ℕ) → Rose a b → b ≤ c → Rose a c
+rose_on a b c rose le = omega (arith, rose, le)
+
+module _ {D : Type 0} (images : Images D) (content : D → Option (List ℕ)) (faults : D → ℕ) (work : Work) (old new : D) (before between : Streams) (trail : Trail) (end : End)
+    (run : HasRun images content faults work old new before between trail end) where
+  pub run_read : (at : OpenFault) (image : List ℕ) → content old ≡ Some image → end ≡ Err (Opening at) → IsOpenFault content faults own_opening old new at
+  run_read at image told is = run.fault at is
+
+  pub told_reading : (image : List ℕ) (reading : Result (List Entry) OpenFault) → content old ≡ Some image → ContentReadsAs content old reading → ReadsAs image reading
+  told_reading image reading told reads = subst (λ (o : Option (List ℕ)). IfSome o (λ bytes. ReadsAs bytes reading)) told reads
+
+  -- an image that doesn't stand for entries isn't opened
+  opened_reads : (found : Option ℕ) (image : List ℕ) → content old ≡ Some image → Begins (content old) (entries_of trail.entries) found → (n : ℕ) → found ≡ Some n
+      → (entries : List Entry) × ReadsAs image (Ok entries)
+  opened_reads None image told begins n is = absurd (cc (is))
+  opened_reads (Some m) image told begins n is = (take m (entries_of trail.entries), told_reading image (Ok (take m (entries_of trail.entries))) told begins.read)
+
+  fault_told : (image : List ℕ) (fault other : OpenFault) → content old ≡ Some image → ReadsAs image (Err fault) → (Rose (faults old) (faults new) → ⊥)
+      → IsOpenFault content faults own_opening old new other → (other ≡ fault) ⊎ (other ≡ opening.NoMemory)
+  fault_told image fault opening.DiskFault told reads calm h = absurd (calm h)
+  fault_told image fault (opening.BadJournal at) told reads calm h = inl (cc (reads_once image (Err (opening.BadJournal at)) (Err fault) (told_reading image (Err (opening.BadJournal at)) told h.1) reads))
+  fault_told image fault (opening.BadEntry at) told reads calm h = inl (cc (reads_once image (Err (opening.BadEntry at)) (Err fault) (told_reading image (Err (opening.BadEntry at)) told h.1) reads))
+  fault_told image fault (opening.IllegalEntry at) told reads calm h = inl (cc (reads_once image (Err (opening.IllegalEntry at)) (Err fault) (told_reading image (Err (opening.IllegalEntry at)) told h.1) reads))
+  fault_told image fault (opening.Full size) told reads calm h = absurd (cc (reads_once image (Ok h.1.found) (Err fault) (told_reading image (Ok h.1.found) told h.1.reads) reads))
+  fault_told image fault opening.NoMemory told reads calm h = inr refl
+
+  pub run_told : (image : List ℕ) (fault : OpenFault) → content old ≡ Some image → ReadsAs image (Err fault) → (Rose (faults old) (faults new) → ⊥)
+      → (end ≡ Err (Opening fault)) ⊎ (end ≡ Err (Opening opening.NoMemory))
+  run_told image fault told reads calm = by end run.found refl refl run.prints
+    where
+      by : (e : End) (o : Option ℕ) → end ≡ e → run.found ≡ o → Prints (Some work) before between (entries_of trail.entries) run.rest e o
+          → (end ≡ Err (Opening fault)) ⊎ (end ≡ Err (Opening opening.NoMemory))
+      by e o is found (parts.usage none same) = absurd (cc (none))
+      by e o is found (parts.unopened asked other w same) = ⊎_elim (λ f. inl (is ∙ ap (λ x. Err (Opening x)) f)) (λ f. inr (is ∙ ap (λ x. Err (Opening x)) f))
+          (fault_told image fault other told reads calm (run.fault other is))
+      by e o is found (parts.answers n s w answers fits) =
+          let r = opened_reads run.found image told run.begins n found in absurd (cc (reads_once image (Ok r.0) (Err fault) r.1 reads))
+      by e o is found (parts.logs n s w long none logs left same) =
+          let r = opened_reads run.found image told run.begins n found in absurd (cc (reads_once image (Ok r.0) (Err fault) r.1 reads))

@@ -1,8 +1,5 @@
 pub mod Causes
-pub mod Gains
-pub mod Lines
+pub mod Headlines
 pub mod Logs
-pub mod Rooms
+pub mod Over
 pub mod Runs
-pub mod Steps
-pub mod Transcripts

@@ -1,10 +1,9 @@
 pub mod Crash
 pub mod Headline
-pub mod Input
 pub mod Log
-pub mod Output
+pub mod Outside
+pub mod Parts
 pub mod Run
-pub mod Script
-pub mod Session
+pub mod Status
 pub mod Stop
-pub mod Transcript
+pub mod Words

@@ -1,18 +1,17 @@
-//! The top call: a script of commands, a journal and a server's replies come in; answers, requests and the journal go out.
+//! The top call: a run of a script, or the log, over the outside that is handed in, and what holds of every such call.
 #![tactic(auto)]
 
-mod input;
 mod log;
 mod output;
-mod session;
+mod run;
 mod stop;
 #[cfg(test)]
 mod tests;
 mod top;
+mod words;
 
-pub use input::read_script;
 pub use log::put_log;
-pub use output::{put_all, put_fault};
-pub use session::answer_lines;
+pub use output::put_fault;
 pub use stop::Stop;
 pub use top::{Done, Hand1, Hands, collect_alone};
+pub use words::{Work, work_of};

@@ -1,14 +1,14 @@
 // The log of a device: a line for each entry.
-ghost use Rattle.std.specs.Prelude.{◌≡◌, IfOk};
-ghost use Rattle.device_core.specs.Trail.{entries_of};
-ghost use Rattle.collect_top.specs.Log.{log_text};
-ghost use Rattle.collect_top.specs.Run.{PutsLog};
+ghost use Rattle.std.specs.Prelude.{◌≡◌, IfOk, List, Option, ℕ};
+ghost use Rattle.device_rules.specs.Trail.{entries_of};
+ghost use Rattle.collect_top.specs.Log.{LogsEntries, log_text};
 
-use crate::{Stop, put_all};
+use collect_script::ScriptStop;
 use collect_text::print_entry;
-use device_core::Marked;
+use device_rules::Marked;
 use field_io::{Failed, Sink};
 use field_text::NoMemory;
+use line_io::put_all;
 use std::alloc::Global;
 
 // The lines of all entries.
@@ -25,12 +25,17 @@ fn log_text(alloc: Global, entries: &[Marked]) -> Result<Vec<u8>, NoMemory>
 }
 
 /// Puts the lines of all entries, which are made whole before the first byte goes out.
-pub fn put_log<Si: Sink>(alloc: Global, entries: &[Marked], sink: &mut Si) -> Result<(), Stop>
-    ensures { PutsLog (entries_of entries.now) (Si.held sink.old) (Si.held sink.new) (Si.faults sink.old) (Si.faults sink.new) result }
+pub fn put_log<Si: Sink>(alloc: Global, entries: &[Marked], sink: &mut Si) -> Result<(), ScriptStop>
+    ensures { (left : Option (List ℕ)) (faults : ℕ) → LogsEntries (entries_of entries.now)
+        (record { left = left; held = Si.held sink.old; source_faults = faults; sink_faults = Si.faults sink.old })
+        (record { left = left; held = Si.held sink.new; source_faults = faults; sink_faults = Si.faults sink.new }) result }
 {
-    let text = log_text(alloc, entries)?;
+    let text = match log_text(alloc, entries) {
+        Ok(text) => text,
+        Err(NoMemory) => return Err(ScriptStop::NoMemory),
+    };
     match put_all(sink, &text) {
         Ok(()) => Ok(()),
-        Err(Failed) => Err(Stop::WriteFault),
+        Err(Failed) => Err(ScriptStop::WriteFault),
     }
 }

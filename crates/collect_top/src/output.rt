@@ -1,24 +1,14 @@
 ghost use Rattle.std.specs.Prelude.{◌≡◌, ◌++◌};
 ghost use Rattle.field_io.specs.Causes.{HasCause};
-ghost use Rattle.collect_top.specs.Output.{PutsText};
+ghost use Rattle.line_io.specs.Output.{PutsText};
 ghost use Rattle.collect_top.specs.Stop.{fault_line, status_text, place_text};
 
 use crate::Stop;
+use collect_script::ScriptStop;
+use device_core::OpenFault;
 use field_io::{Failed, Sink};
 use itoa::Buffer;
-
-/// Puts all of the bytes. A failure may leave the sink with a part of them.
-pub fn put_all<Si: Sink>(sink: &mut Si, bytes: &[u8]) -> Result<(), Failed>
-    ensures puts { PutsText (Si.held sink.old) (Si.held sink.new) result bytes.now }
-    ensures cause { HasCause (Si.faults sink.old) (Si.faults sink.new) result }
-{
-    let mut rest = bytes;
-    while !rest.is_empty() {
-        let count = sink.put(rest)?;
-        rest = &rest[count..];
-    }
-    Ok(())
-}
+use line_io::put_all;
 
 fn put_both<Si: Sink>(sink: &mut Si, first: &[u8], second: &[u8]) -> Result<(), Failed>
     ensures puts { PutsText (Si.held sink.old) (Si.held sink.new) result (first.now ++ second.now) }
@@ -35,11 +25,17 @@ fn put_place<Si: Sink>(sink: &mut Si, stop: Stop) -> Result<(), Failed>
 {
     let mut digits = Buffer::new();
     match stop {
-        Stop::BadJournal { at } => put_both(sink, b" at ", digits.format(at).as_bytes()),
-        Stop::BadEntry { position } | Stop::IllegalEntry { position } => {
+        Stop::Opening(OpenFault::BadJournal { at }) => put_both(
+            sink,
+            b" at ",
+            digits.format(at).as_bytes(),
+        ),
+        Stop::Opening(OpenFault::BadEntry { position })
+        | Stop::Opening(OpenFault::IllegalEntry { position }) => {
             put_both(sink, b" entry ", digits.format(position).as_bytes())
         }
-        Stop::JournalFull { length } => {
+        Stop::Opening(OpenFault::Full { length })
+        | Stop::Script(ScriptStop::JournalFull { length }) => {
             put_both(sink, b" length ", digits.format(length).as_bytes())
         }
         _ => put_all(sink, b""),

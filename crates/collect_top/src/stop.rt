@@ -1,27 +1,45 @@
 ghost use Rattle.std.specs.Prelude.{◌≡◌};
-ghost use Rattle.collect_top.specs.Stop.{status_of, opening_stop};
+ghost use Rattle.collect_top.specs.Stop.{opening_status, script_status, status_of};
 
+use collect_script::ScriptStop;
 use device_core::OpenFault;
-use field_text::NoMemory;
 
-/// Why a run stopped before its end.
+/// Why a call stopped before its end.
 #[derive(Clone, Copy, Debug, PartialEq, Eq)]
 pub enum Stop {
     /// The words aren't those of a command.
     Usage,
-    ReadFault,
-    WriteFault,
-    DiskFault,
-    /// The journal is off its grammar at this place.
-    BadJournal { at: u64 },
-    /// The entry at this position is off its spelling.
-    BadEntry { position: u64 },
-    /// The rules refuse the entry at this position.
-    IllegalEntry { position: u64 },
-    NoMemory,
-    /// An entry doesn't fit the journal, which has this length.
-    JournalFull { length: u64 },
-    ScriptTooLong,
+    /// The device couldn't be opened.
+    Opening(OpenFault),
+    /// The script, or the log, came to no end.
+    Script(ScriptStop),
+}
+
+fn opening_status(fault: OpenFault) -> u8
+    ensures { result ≡ opening_status fault }
+{
+    match fault {
+        OpenFault::DiskFault => 5,
+        OpenFault::BadJournal { .. }
+        | OpenFault::BadEntry { .. }
+        | OpenFault::IllegalEntry { .. } => 6,
+        OpenFault::NoMemory => 7,
+        OpenFault::Full { .. } => 9,
+    }
+}
+
+fn script_status(stop: ScriptStop) -> u8
+    ensures { result ≡ script_status stop }
+{
+    match stop {
+        ScriptStop::ReadFault => 3,
+        ScriptStop::WriteFault => 4,
+        ScriptStop::DiskFault => 5,
+        ScriptStop::NoMemory => 7,
+        ScriptStop::LineTooLong => 8,
+        ScriptStop::JournalFull { .. } => 9,
+        ScriptStop::ScriptTooLong => 10,
+    }
 }
 
 impl Stop {
@@ -31,38 +49,8 @@ impl Stop {
     {
         match self {
             Stop::Usage => 2,
-            Stop::ReadFault => 3,
-            Stop::WriteFault => 4,
-            Stop::DiskFault => 5,
-            Stop::BadJournal { .. } | Stop::BadEntry { .. } | Stop::IllegalEntry { .. } => 6,
-            Stop::NoMemory => 7,
-            Stop::JournalFull { .. } => 9,
-            Stop::ScriptTooLong => 10,
+            Stop::Opening(fault) => opening_status(fault),
+            Stop::Script(stop) => script_status(stop),
         }
-    }
-
-    /// The stop that a fault of opening leads to.
-    pub fn of_opening(fault: OpenFault) -> Stop
-        ensures { result ≡ opening_stop fault }
-    {
-        match fault {
-            OpenFault::DiskFault => Stop::DiskFault,
-            OpenFault::BadJournal { at } => Stop::BadJournal { at },
-            OpenFault::BadEntry { position } => Stop::BadEntry { position },
-            OpenFault::IllegalEntry { position } => Stop::IllegalEntry { position },
-            OpenFault::Full { length } => Stop::JournalFull { length },
-            OpenFault::NoMemory => Stop::NoMemory,
-        }
-    }
-}
-
-impl From<NoMemory> for Stop {
-    ghost use Rattle.collect_top.specs.declared.stop.Stop.TheVariants.{NoMemory};
-    ghost use Rattle.std.specs.Prelude.{◌≡◌};
-
-    ghost from_gives = { λ _ e. e ≡ NoMemory };
-
-    fn from(_: NoMemory) -> Stop {
-        Stop::NoMemory
     }
 }

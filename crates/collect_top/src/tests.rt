@@ -36,7 +36,7 @@ fn no_fails(alloc: Global) -> Fails {
 
 fn hand(alloc: Global) -> Hand1<MemDialer, FixedClock> {
     Hand1 {
-        dialer: MemDialer::make(Vec::new(alloc), Vec::new(alloc)),
+        dialer: MemDialer::make(alloc, Vec::new(alloc), Vec::new(alloc)),
         clock: FixedClock::make(0),
     }
 }
@@ -89,88 +89,140 @@ fn run(
     })
 }
 
+struct Case {
+    words: &'static [&'static str],
+    script: &'static [u8],
+    status: u8,
+    printed: &'static [u8],
+    // bytes of the journal behind the run
+    length: usize,
+}
+
+static CASES: [Case; 10] = [
+    Case {
+        words: &["run"],
+        script: SETTINGS,
+        status: 0,
+        printed: SETTINGS_ANSWERS,
+        length: 57,
+    },
+    Case {
+        words: &["run"],
+        script: b"",
+        status: 0,
+        printed: b"",
+        length: 49,
+    },
+    Case {
+        words: &["run"],
+        script: b"dance\nshow settings\n",
+        status: 0,
+        printed: b"1 not built\n1 settings mode manual autosend off\n",
+        length: 49,
+    },
+    Case {
+        words: &["run"],
+        script: b"quit\ndance\n",
+        status: 0,
+        printed: b"1 bye\n",
+        length: 49,
+    },
+    Case {
+        words: &["run"],
+        script: b"# dance\n\n  \nquit",
+        status: 0,
+        printed: b"1 bye\n",
+        length: 49,
+    },
+    Case {
+        words: &["run"],
+        script: b"set \"autosend\" off\r\nset  autosend on \n",
+        status: 0,
+        printed: b"2 ok\n3 ok\n",
+        length: 65,
+    },
+    Case {
+        words: &["run"],
+        script: b"set mode exact\nset mode previous\nshow settings\nset mode manual\n",
+        status: 0,
+        printed: b"2 ok\n3 ok\n3 settings mode previous autosend off\n4 ok\n",
+        length: 73,
+    },
+    Case {
+        words: &["run", "run"],
+        script: b"quit\n",
+        status: 2,
+        printed: b"fault 2\n",
+        length: 0,
+    },
+    Case {
+        words: &[],
+        script: b"quit\n",
+        status: 2,
+        printed: b"fault 2\n",
+        length: 0,
+    },
+    Case {
+        words: &["fly"],
+        script: b"quit\n",
+        status: 2,
+        printed: b"fault 2\n",
+        length: 0,
+    },
+];
+
 #[test]
 fn scripts_are_answered(rt: HostRuntime) -> Result<(), Fail> {
     let alloc = rt.alloc();
-    let long = [b'#'; 8193];
-    let closed = [0xA7u8; 10];
-    let cases: [(&[&str], &[u8], &[u8], u8, &[u8], usize); 13] = [
-        (&["run"], b"", SETTINGS, 0, SETTINGS_ANSWERS, 57),
-        (&["run"], b"", b"", 0, b"", 49),
-        (&["run"], &closed[..9], b"quit\n", 0, b"1 bye\n", 49),
-        (&["run"], &closed, b"quit\n", 6, b"fault 6 at 0\n", 10),
-        (
-            &["run"],
-            b"",
-            b"dance\nshow settings\n",
-            0,
-            b"1 not built\n1 settings mode manual autosend off\n",
-            49,
-        ),
-        (&["run", "run"], b"", b"quit\n", 2, b"fault 2\n", 0),
-        (&[], b"", b"quit\n", 2, b"fault 2\n", 0),
-        (&["run"], b"", b"quit\ndance\n", 0, b"1 bye\n", 49),
-        (&["run"], b"", b"# dance\n\n  \nquit", 0, b"1 bye\n", 49),
-        (
-            &["run"],
-            b"",
-            b"set \"autosend\" off\r\nset  autosend on \n",
-            0,
-            b"2 ok\n3 ok\n",
-            65,
-        ),
-        (
-            &["run"],
-            b"",
-            b"set mode exact\nset mode previous\nshow settings\nset mode manual\n",
-            0,
-            b"2 ok\n3 ok\n3 settings mode previous autosend off\n4 ok\n",
-            73,
-        ),
-        (&["run"], b"", &long[..8192], 0, b"", 49),
-        (&["run"], b"", &long, 10, b"fault 10\n", 0),
-    ];
-    for (words, journal, script, status, printed, length) in cases {
-        let left = run(alloc, words, journal, script, no_fails(alloc))?;
-        assert_eq!(rt; left.status, status);
-        assert_eq!(rt; left.printed.as_slice(), printed);
-        assert_eq!(rt; left.journal.len(), length);
+    for case in &CASES {
+        let left = run(alloc, case.words, b"", case.script, no_fails(alloc))?;
+        assert_eq!(rt; left.status, case.status);
+        assert_eq!(rt; left.printed.as_slice(), case.printed);
+        assert_eq!(rt; left.journal.len(), case.length);
     }
-    let left = run(alloc, &["run"], b"", SETTINGS, no_fails(alloc))?;
-    assert_eq!(rt; left.entries, 2);
-    assert!(rt; left.journal.ends_with(&[0xA7, 3, 0, 0, 0, 2, 0, 1, 0]));
     Ok(())
 }
 
+// A line of 8,192 bytes is answered, a longer one ends the run; ten bytes are no journal, and nine are an empty one.
 #[test]
-fn each_failing_call_has_its_status(rt: HostRuntime) -> Result<(), Fail> {
+fn limits_are_told(rt: HostRuntime) -> Result<(), Fail> {
     let alloc = rt.alloc();
-    for call in 1..40u64 {
-        let number = [call];
+    let long = [b'#'; 8193];
+    let left = run(alloc, &["run"], b"", &long[..8192], no_fails(alloc))?;
+    assert_eq!(rt; left.status, 0);
+    let left = run(alloc, &["run"], b"", &long, no_fails(alloc))?;
+    assert_eq!(rt; left.status, 8);
+    assert_eq!(rt; left.printed.as_slice(), b"fault 8\n".as_slice());
+    let closed = [0xA7u8; 10];
+    let left = run(alloc, &["run"], &closed[..9], b"quit\n", no_fails(alloc))?;
+    assert_eq!(rt; left.printed.as_slice(), b"1 bye\n".as_slice());
+    let left = run(alloc, &["run"], &closed, b"quit\n", no_fails(alloc))?;
+    assert_eq!(rt; left.status, 6);
+    assert_eq!(rt; left.printed.as_slice(), b"fault 6 at 0\n".as_slice());
+    Ok(())
+}
+
+// The first call of the source takes the whole script, and a script without `quit` has a second one.
+#[test]
+fn faults_come_behind_what_was_answered(rt: HostRuntime) -> Result<(), Fail> {
+    let alloc = rt.alloc();
+    for call in 1..3u64 {
         let mut fails = no_fails(alloc);
-        fails.source = Vec::from_slice(alloc, &number)?;
-        let left = run(alloc, &["run"], b"", SETTINGS, fails)?;
-        if call <= 2 {
-            assert_eq!(rt; left.status, 3);
-            assert_eq!(rt; left.printed.as_slice(), b"fault 3\n".as_slice());
-            assert_eq!(rt; left.journal.len(), 0);
+        fails.source = Vec::from_slice(alloc, &[call])?;
+        let left = run(alloc, &["run"], b"", b"set autosend on\nshow", fails)?;
+        assert_eq!(rt; left.status, 3);
+        let want: &[u8] = if call == 1 {
+            b"fault 3\n"
         } else {
-            assert_eq!(rt; left.status, 0);
-        }
+            b"2 ok\nfault 3\n"
+        };
+        assert_eq!(rt; left.printed.as_slice(), want);
         let mut fails = no_fails(alloc);
-        fails.sink = Vec::from_slice(alloc, &number)?;
+        fails.sink = Vec::from_slice(alloc, &[call])?;
         let left = run(alloc, &["run"], b"", SETTINGS, fails)?;
-        assert_eq!(rt; left.status, if call <= 3 { 4 } else { 0 });
-        assert!(rt; SETTINGS_ANSWERS.starts_with(&left.printed));
-        let mut fails = no_fails(alloc);
-        fails.disk = Vec::from_slice(alloc, &number)?;
-        let left = run(alloc, &["run"], b"", SETTINGS, fails)?;
-        if left.status == 0 {
-            assert_eq!(rt; left.printed.as_slice(), SETTINGS_ANSWERS);
-        } else {
-            assert_eq!(rt; left.status, 5);
-            assert_eq!(rt; left.printed.as_slice(), b"fault 5\n".as_slice());
-        }
+        assert_eq!(rt; left.status, 4);
+        let want: &[u8] = if call == 1 { b"" } else { b"2 ok\n" };
+        assert_eq!(rt; left.printed.as_slice(), want);
     }
     Ok(())
 }

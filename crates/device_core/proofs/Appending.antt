@@ -11,25 +11,27 @@ use Rattle.device_journal.specs.declared.fault.AppendFault.TheVariants as journa
 use Rattle.device_journal.specs.Frames.{end_of, limit, HasFrames, Stands}
 use Rattle.device_journal.specs.Moments.{LeavesOnly, LeavesFrom}
 use Rattle.device_journal.specs.Sound.{IsBeforeOrAfter}
-use Rattle.device_core.specs.declared.answer.Answer.{Answer}
-use Rattle.device_core.specs.declared.state.State.{State}
-use Rattle.device_core.specs.declared.trail.Marked.{Marked}
+use Rattle.device_rules.specs.declared.answer.Answer.{Answer}
+use Rattle.device_rules.specs.declared.state.State.{State}
+use Rattle.device_rules.specs.declared.trail.Marked.{Marked}
 use Rattle.device_core.specs.Crash.{AddsOnly, Crash, HasAtLeast}
 use Rattle.device_core.specs.Device.{IsKept, IsLoaded}
 use Rattle.device_core.specs.Images.{payloads_of}
 use Rattle.device_core.specs.Replay.{IsSpelledBy}
-use Rattle.device_core.specs.State.{initial}
-use Rattle.device_core.specs.Step.{IsAllowed, step}
-use Rattle.device_core.specs.Trail.{Appends, IsLegal, IsOpened, DeviceView, entries_of, marked_at, replay, state_after}
+use Rattle.device_rules.specs.State.{initial}
+use Rattle.device_rules.specs.Step.{IsAllowed, step}
+use Rattle.device_rules.specs.Trail.{IsLegal, entries_of, marked_at, replay, state_after}
+use Rattle.device_core.specs.View.{Appends, IsOpened, DeviceView}
 use Rattle.std.proofs.Common.{take}
 use Rattle.std.proofs.lemmas.List.{append-nil, take-append-le, take_all}
 use Rattle.field_io.specs.Causes.{Rose}
-use Rattle.device_core.specs.declared.fault.SubmitFault.{SubmitFault}
-use Rattle.device_core.specs.declared.fault.SubmitFault.TheVariants as submitting
+use Rattle.device_rules.specs.declared.told.SubmitFault.{SubmitFault}
+use Rattle.device_rules.specs.declared.told.SubmitFault.TheVariants as submitting
 use Rattle.device_core.specs.Faults.{ContentReadsAs, IsFull, IsOpenFault, IsSubmitFault, open_fault_of}
-use Rattle.device_core.proofs.Crashes.{length-entries, adds_same, at_least_more, leaves_then, crash_failed, crash_grown, crash_found}
+use Rattle.device_core.specs.CrashLaws.{adds_same, at_least_more}
+use Rattle.device_core.proofs.Crashes.{length-entries, leaves_then, crash_failed, crash_grown, crash_found}
 use Rattle.device_core.proofs.Payloads.{end_of-push, fit-push, payloads-push}
-use Rattle.device_core.proofs.Replays.{entries-push, replay-push}
+use Rattle.device_rules.proofs.Replays.{after_step, entries-push, replay-push}
 
 -- an append that answered otherwise had no fault before it
 pub was_sound : (failed : Option ℕ) (result other : Result ℕ AppendFault) → result ≡ other → ((faults : ℕ) → other ≡ Err (journal.Failed faults) → ⊥) → ((faults : ℕ) → failed ≡ Some faults → result ≡ Err (journal.Failed faults)) → failed ≡ None
@@ -54,9 +56,6 @@ failed_as old new entry rest is some = λ i. entries_of (sym is i) ++ option_to_
 
 legal_with : (entries : List Entry) (rest : Option Entry) (state : State) → rest ≡ None → replay initial entries ≡ Some state → IsLegal initial (entries ++ option_to_list rest)
 legal_with entries rest state none legal = (state, ap (λ r. replay initial (entries ++ option_to_list r)) none ∙ ap (λ l. replay initial l) (append-nil entries) ∙ legal)
-
-pub after_step : (state next : State) (entry : Entry) (answer : Answer) → step state entry ≡ Ok (next, answer) → state_after state entry ≡ Some next
-after_step state next entry answer is = ap (λ r. option_map (λ x. x.0) (result_ok r)) is
 
 module _ {D : Type 0} (content : D → Option (List ℕ)) (since : D → ℕ → List ℕ → Type 0) (clock : D → ℕ) where
   -- an append that was done
@@ -168,21 +167,10 @@ module _ {D : Type 0} (since : D → ℕ → List ℕ → Type 0) (clock : D →
       subst (λ (t : ℕ). LeavesFrom clock since disk new.disk t (HasAtLeast (entries_of new.entries) new.found)) (sym opened)
       (leaves_then clock since disk old.disk new.disk old.opened _ _ _ leaves adds grown added)
 
-  -- an append that answered no position may leave its entry
-  pub tried : (content : D → Option (List ℕ)) (faults : D → ℕ) (fault : SubmitFault) → IsSubmitFault content faults entry old new fault → (fault ≡ submitting.DiskFault → new.rest ≡ Some entry)
-      → AddsOnly since clock old.disk new.disk (HasAtLeast (entries_of new.entries ++ option_to_list new.rest) (length old.entries))
-      → AddsOnly since clock old.disk new.disk (HasAtLeast (entries_of old.entries ++ entry ∷ []) (length old.entries))
-  tried content faults (submitting.Refused position why) h rest adds = adds_same since clock old.disk new.disk _ (ap (λ v. v.disk) h.0)
-  tried content faults (submitting.Full size) h rest adds = adds_same since clock old.disk new.disk _ (ap (λ v. v.disk) h.0)
-  tried content faults submitting.DiskFault h rest adds =
-      subst (λ (l : List Entry). AddsOnly since clock old.disk new.disk (HasAtLeast l (length old.entries))) (sym (failed_as old.entries new.entries entry new.rest h.0.entries (rest refl))) adds
-  tried content faults (submitting.Failed count) h rest adds = adds_same since clock old.disk new.disk _ (ap (λ v. v.disk) h.0)
-
-pub append_fault : {D : Type 0} (content : D → Option (List ℕ)) (faults : D → ℕ) (disk : D) (entries : List Entry) (entry : Entry) (old new : DeviceView D) (fault : SubmitFault) → IsSubmitFault content faults entry old new fault
-    → ((size : ℕ) → fault ≡ submitting.Full size → IsFull entries entry size)
-    → old.failed ≡ None → faults old.disk ≡ faults disk → ContentReadsAs content disk (Ok entries) → IsOpenFault content faults entry disk new.disk (open_fault_of fault)
-append_fault content faults disk entries entry old new (submitting.Refused position why) h full sound kept reads = ap (λ v. faults v.disk) h.0 ∙ kept
-append_fault content faults disk entries entry old new (submitting.Full size) h full sound kept reads =
-    (ap (λ v. faults v.disk) h.0 ∙ kept, record { found = entries; reads = reads; full = full size refl })
-append_fault content faults disk entries entry old new submitting.DiskFault h full sound kept reads = subst (λ (n : ℕ). Rose n (faults new.disk)) kept h.1
-append_fault content faults disk entries entry old new (submitting.Failed count) h full sound kept reads = absurd (cc (sound, h.1))
+pub append_fault : {D : Type 0} (content : D → Option (List ℕ)) (faults : D → ℕ) (disk : D) (entry : Entry) (old new : DeviceView D) (fault : SubmitFault) → IsSubmitFault content faults entry old new fault
+    → old.failed ≡ None → faults old.disk ≡ faults disk → ContentReadsAs content disk (Ok (entries_of old.entries)) → IsOpenFault content faults entry disk new.disk (open_fault_of fault)
+append_fault content faults disk entry old new (submitting.Refused position why) h sound kept reads = ap (λ v. faults v.disk) h.0 ∙ kept
+append_fault content faults disk entry old new (submitting.Full size) h sound kept reads =
+    (ap (λ v. faults v.disk) h.0 ∙ kept, record { found = entries_of old.entries; reads = reads; full = h.2 })
+append_fault content faults disk entry old new submitting.DiskFault h sound kept reads = subst (λ (n : ℕ). Rose n (faults new.disk)) kept h.1
+append_fault content faults disk entry old new (submitting.Failed count) h sound kept reads = absurd (cc (sound, h.1))

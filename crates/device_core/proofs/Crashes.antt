@@ -8,29 +8,18 @@ use Rattle.entry_codec.specs.Spelling.{Fits, spelling}
 use Rattle.device_journal.specs.Frames.{HasFrames}
 use Rattle.device_journal.specs.Moments.{LeavesOnly, LeavesFrom}
 use Rattle.device_journal.specs.Sound.{IsBeforeOrAfter}
-use Rattle.device_core.specs.declared.trail.Marked.{Marked}
+use Rattle.device_rules.specs.declared.trail.Marked.{Marked}
 use Rattle.device_core.specs.Crash.{HasAtLeast, Crash, AddsOnly}
+use Rattle.device_core.specs.CrashLaws.{at_least_more}
 use Rattle.device_core.specs.Images.{StandsFor, payloads_of}
 use Rattle.device_core.specs.Replay.{IsSpelledBy}
-use Rattle.device_core.specs.Trail.{entries_of, marked_at}
+use Rattle.device_rules.specs.Trail.{entries_of, marked_at}
 use Rattle.device_core.proofs.Payloads.{fit-push, payloads-push}
-use Rattle.device_core.proofs.Replays.{entries-push}
+use Rattle.device_rules.proofs.Replays.{entries-push}
 
 pub length-entries : (marked : List Marked) → length (entries_of marked) ≡ length marked
 length-entries [] = refl
 length-entries (m ∷ marked) = let e = length-entries marked in omega (arith, e)
-
--- entries at the end take nothing away
-pub at_least_more : (entries : List Entry) (more : List Entry) (least : ℕ) (c : List ℕ) → HasAtLeast entries least c → HasAtLeast (entries ++ more) least c
-at_least_more entries more least c has = record {
-  count = has.count;
-  enough = has.enough;
-  within = omega (arith, has.within, length-append entries more);
-  stands = subst (StandsFor c) (sym (take-append-le has.count entries more has.within)) has.stands;
-}
-
-pub at_least_less : (entries : List Entry) (least more : ℕ) (c : List ℕ) → least ≤ more → HasAtLeast entries more c → HasAtLeast entries least c
-at_least_less entries least more c le has = record { count = has.count; enough = omega (arith, le, has.enough); within = has.within; stands = has.stands }
 
 pub at_least_all : (entries : List Entry) (least : ℕ) (c : List ℕ) → least ≤ length entries → StandsFor c entries → HasAtLeast entries least c
 at_least_all entries least c le stands = record {
@@ -46,15 +35,6 @@ before_or_after entries entry least c fit one le (inl before) = at_least_more en
 before_or_after entries entry least c fit one le (inr after) =
     at_least_all (entries ++ entry ∷ []) least c (omega (arith, le, length-append entries (entry ∷ [])))
     record { fit = fit-push entries entry fit one; frames = subst (λ (l : List (List ℕ)). HasFrames c l) (sym (payloads-push entries entry)) after }
-
-pub adds_same : {D : Type 0} (since : D → ℕ → List ℕ → Type 0) (clock : D → ℕ) (old new : D) (P : List ℕ → Type 0) → new ≡ old → AddsOnly since clock old new P
-adds_same since clock old new P same = (let e = ap clock same in omega (arith, e), λ t c le left. inl (subst (λ d. since d t c) same left))
-
--- a call behind another
-pub adds_then : {D : Type 0} (since : D → ℕ → List ℕ → Type 0) (clock : D → ℕ) (old mid new : D) (P Q R : List ℕ → Type 0) → AddsOnly since clock old mid P → AddsOnly since clock mid new Q
-    → ((c : List ℕ) → P c → R c) → ((c : List ℕ) → Q c → R c) → AddsOnly since clock old new R
-adds_then since clock old mid new P Q R first second p q =
-    (omega (arith, first.0, second.0), λ t c le left. ⊎_elim (λ was. ⊎_elim (λ w. inl w) (λ h. inr (p c h)) (first.1 t c le was)) (λ h. inr (q c h)) (second.1 t c (omega (arith, le, first.0)) left))
 
 pub leaves_then : {D : Type 0} (clock : D → ℕ) (since : D → ℕ → List ℕ → Type 0) (old mid new : D) (t : ℕ) (P Q R : List ℕ → Type 0) → LeavesFrom clock since old mid t P → AddsOnly since clock mid new Q
     → ((c : List ℕ) → P c → R c) → ((c : List ℕ) → Q c → R c) → LeavesFrom clock since old new t R

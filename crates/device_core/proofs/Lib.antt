@@ -4,4 +4,5 @@ pub mod Once
 mod Opening
 pub mod Payloads
 pub mod Replays
-mod Spellings
+mod Unopened
+mod Calling

@@ -9,14 +9,14 @@ use Rattle.device_journal.specs.declared.fault.OpenFault.{OpenFault}
 use Rattle.device_journal.specs.declared.fault.OpenFault.TheVariants as opening
 use Rattle.device_journal.specs.Frames.{HasFrames, Stands, IsOffAt}
 use Rattle.device_journal.specs.Opened.{OfOpening}
-use Rattle.device_journal.specs.Moments.{LeavesAsRead, LeavesFrom, IsAsRead, unsynced as journal_unsynced, synced as journal_synced}
-use Rattle.device_core.specs.Crash.{HasAtLeast, IsLeftByOpening, IsLeft, LeavesUnopened, unsynced, synced, AddsOnly}
-use Rattle.device_core.specs.declared.state.State.{State}
+use Rattle.device_journal.specs.Moments.{LeavesFrom, IsAsRead}
+use Rattle.device_core.specs.Crash.{HasAtLeast, IsLeftByOpening, IsLeft, AddsOnly}
+use Rattle.device_rules.specs.declared.state.State.{State}
 use Rattle.device_core.specs.Faults.{ReadsAs, ContentReadsAs, IsOpenFault}
 use Rattle.device_core.specs.Images.{StandsFor}
 use Rattle.device_core.specs.Replay.{IsSpelledBy, IsRecoverFault}
-use Rattle.device_core.specs.State.{initial}
-use Rattle.device_core.specs.Trail.{replay}
+use Rattle.device_rules.specs.State.{initial}
+use Rattle.device_rules.specs.Trail.{replay}
 use Rattle.device_core.proofs.Crashes.{leaves_then}
 
 pub if_some_all : {X : Type 0} (o : Option X) (P : X → Type 0) → ((x : X) → o ≡ Some x → P x) → IfSome o P
@@ -66,21 +66,9 @@ all_or_more entries opening c least all has = by (cases_lt (length entries) has.
     by (inl more) = inr (subst (StandsFor c) (take_all has.count (entries ++ opening ∷ []) (omega (arith, more, length-append entries (opening ∷ [])))) has.stands)
     by (inr few) = inl (subst (StandsFor c) (take-append-le has.count entries (opening ∷ []) few ∙ take_all has.count entries (omega (arith, has.enough, all))) has.stands)
 
-module _ {D : Type 0} (clock : D → ℕ) (may : D → List ℕ → Type 0) (since : D → ℕ → List ℕ → Type 0) (content : Option (List ℕ)) (opening : Entry) where
+module _ {D : Type 0} (clock : D → ℕ) (since : D → ℕ → List ℕ → Type 0) (content : Option (List ℕ)) (opening : Entry) where
   left_of : (c : List ℕ) → IsAsRead content c → IsLeft content opening c
   left_of c read image is = left_as_read opening image c (subst (λ (l : List ℕ). (c ≡ l) ⊎ ((length l ≤ 9) × (length c ≤ 9))) (cc (is, read.1)) read.2)
-
-  pub unopened : (old new : D) → LeavesAsRead clock may since content old new → LeavesUnopened clock may since content opening old new
-  unopened old new (journal_unsynced adds) = unsynced adds
-  unopened old new (journal_synced t leaves) = synced t record {
-    begins = leaves.begins;
-    ends = leaves.ends;
-    each = λ c left. left_of c (leaves.each c left);
-    before = λ u c le left. ⊎_elim (λ was. inl was) (λ now. inr (left_of c now)) (leaves.before u c le left);
-  }
-
-  pub unrecovered : (old new : D) (t : ℕ) → LeavesFrom clock since old new t (IsAsRead content) → LeavesUnopened clock may since content opening old new
-  unrecovered old new t leaves = unopened old new (journal_synced t leaves)
 
   -- the opening's own append, over what was read
   pub then_appended : (old mid new : D) (t : ℕ) (entries : List Entry) (least : ℕ) → LeavesFrom clock since old mid t (IsAsRead content) → IfSome content (λ image. ReadsAs image (Ok entries)) → least ≡ length entries

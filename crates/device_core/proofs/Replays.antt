@@ -1,33 +1,16 @@
 -- Replaying entries one by one.
 use Rattle.std.proofs.Common.{◌≡◌, ℕ, ◌+◌, List, [], ◌∷◌, ◌++◌, length, map, Option, Some, None, Err, refl, sym, ◌∙◌, ap, subst, arith, append_assoc}
 use Rattle.std.specs.Prelude.{reverse}
-use Rattle.std.specs.Option.{option_and_then}
 use Rattle.std.proofs.lemmas.List.{map-append, reverse-append}
 use Rattle.entry_form.specs.declared.entry.Entry.{Entry}
-use Rattle.device_core.specs.declared.refused.Refused.{Refused}
-use Rattle.device_core.specs.declared.state.State.{State}
-use Rattle.device_core.specs.declared.trail.Marked.{Marked}
+use Rattle.device_rules.specs.declared.refused.Refused.{Refused}
+use Rattle.device_rules.specs.declared.state.State.{State}
+use Rattle.device_rules.specs.declared.trail.Marked.{Marked}
 use Rattle.device_core.specs.Images.{IsRefusedFrom}
-use Rattle.device_core.specs.State.{initial}
-use Rattle.device_core.specs.Step.{step}
-use Rattle.device_core.specs.Trail.{entries_of, marked_at, replay, state_after}
-
-pub replay-append : (start : State) (entries more : List Entry) → replay start (entries ++ more) ≡ option_and_then (λ next. replay next more) (replay start entries)
-replay-append start [] more = refl
-replay-append start (entry ∷ entries) more = then (state_after start entry) (λ next. replay-append next entries more)
-  where
-    then : (o : Option State) → ((next : State) → replay next (entries ++ more) ≡ option_and_then (λ s. replay s more) (replay next entries))
-        → option_and_then (λ next. replay next (entries ++ more)) o ≡ option_and_then (λ next. replay next more) (option_and_then (λ next. replay next entries) o)
-    then None rest = refl
-    then (Some next) rest = rest next
-
--- one step more
-pub replay-push : (start : State) (entries : List Entry) (state next : State) (entry : Entry) → replay start entries ≡ Some state → state_after state entry ≡ Some next → replay start (entries ++ entry ∷ []) ≡ Some next
-replay-push start entries state next entry reached stepped =
-    replay-append start entries (entry ∷ []) ∙ ap (λ o. option_and_then (λ s. replay s (entry ∷ [])) o) reached ∙ ap (λ o. option_and_then (λ s. replay s []) o) stepped
-
-pub entries-push : (marked : List Marked) (one : Marked) → entries_of (marked ++ one ∷ []) ≡ entries_of marked ++ one.entry ∷ []
-entries-push marked one = map-append (λ m. m.entry) marked (one ∷ [])
+use Rattle.device_rules.specs.State.{initial}
+use Rattle.device_rules.specs.Step.{step}
+use Rattle.device_rules.proofs.Replays.{entries-push, replay-push}
+use Rattle.device_rules.specs.Trail.{entries_of, marked_at, replay, state_after}
 
 -- So many entries are replayed, and the others are left, the first of them last.
 pub record SoFar (all : List Entry) (moment : ℕ) (state : State) (marked : List Marked) (left : List Entry) : Type 0 where

@@ -7,12 +7,13 @@ use Rattle.disk_model.specs.declared.disk.Disk.{Ghosts}
 use Rattle.device_journal.specs.declared.journal.Journal.{Journal}
 use Rattle.device_journal.specs.Journal.{journal_disk, journal_opened, journal_failed}
 use Rattle.device_journal.specs.Frames.{Stands, end_of}
-use Rattle.device_core.specs.declared.state.State.{State}
-use Rattle.device_core.specs.declared.trail.Marked.{Marked}
+use Rattle.device_rules.specs.declared.state.State.{State}
+use Rattle.device_rules.specs.declared.trail.Marked.{Marked}
 use Rattle.device_core.specs.Crash.{HasCrash}
 use Rattle.device_core.specs.Images.{payloads_of}
-use Rattle.device_core.specs.State.{initial}
-use Rattle.device_core.specs.Trail.{DeviceView, IsLegal, IsReady, entries_of, replay}
+use Rattle.device_rules.specs.State.{initial}
+use Rattle.device_rules.specs.Trail.{IsLegal, entries_of, replay}
+use Rattle.device_core.specs.View.{DeviceView, IsReady}
 
 abbrev pub shown : {D : Type 0} {G : Ghosts D} → Journal D G → State → List Marked → ℕ → Option Entry → DeviceView D
 shown journal state entries found rest = record {
@@ -33,7 +34,8 @@ pub record IsSound {D : Type 0} (content : D → Option (List ℕ)) (size : ℕ)
   pub size_is : size ≡ end_of (payloads_of (entries_of device.entries))
 
 -- what holds of every device
-pub record IsKept {D : Type 0} (content : D → Option (List ℕ)) (since : D → ℕ → List ℕ → Type 0) (clock : D → ℕ) (size : ℕ) (device : DeviceView D) : Type 0 where
+pub record IsKept {D : Type 0} (content : D → Option (List ℕ)) (since : D → ℕ → List ℕ → Type 0) (clock : D → ℕ)
+    (size : ℕ) (device : DeviceView D) : Type 0 where
   pub legal : replay initial (entries_of device.entries) ≡ Some device.state
   pub rest_legal : IsLegal initial (entries_of device.entries ++ option_to_list device.rest)
   pub sound : device.failed ≡ None → IsSound content size device

@@ -6,11 +6,11 @@ use Rattle.entry_codec.specs.Spelling.{Fits, spelling}
 use Rattle.device_journal.specs.Frames.{HasFrames, IsOffAt}
 use Rattle.device_journal.specs.declared.fault.OpenFault.{OpenFault}
 use Rattle.device_journal.specs.declared.fault.OpenFault.TheVariants as opening
-use Rattle.device_core.specs.declared.refused.Refused.{Refused}
-use Rattle.device_core.specs.declared.state.State.{State}
-use Rattle.device_core.specs.State.{initial}
-use Rattle.device_core.specs.Step.{step}
-use Rattle.device_core.specs.Trail.{replay, IsLegal}
+use Rattle.device_rules.specs.declared.refused.Refused.{Refused}
+use Rattle.device_rules.specs.declared.state.State.{State}
+use Rattle.device_rules.specs.State.{initial}
+use Rattle.device_rules.specs.Step.{step}
+use Rattle.device_rules.specs.Trail.{replay, IsLegal}
 
 -- the payloads of these entries
 abbrev pub payloads_of : List Entry → List (List ℕ)
@@ -51,6 +51,8 @@ pub record IsRefusedFrom (entries : List Entry) (position : ℕ) : Type 0 where
 abbrev pub ReadsAs : List ℕ → Result (List Entry) OpenFault → Type 0
 ReadsAs image (Ok entries) = StandsFor image entries × IsLegal initial entries
 ReadsAs image (Err (opening.BadJournal at)) = IsOffAt image at
-ReadsAs image (Err (opening.BadEntry position)) = (payloads : List (List ℕ)) × HasFrames image payloads × IsOffFrom payloads position
-ReadsAs image (Err (opening.IllegalEntry position)) = (entries : List Entry) × StandsFor image entries × IsRefusedFrom entries position
+ReadsAs image (Err (opening.BadEntry position)) = (payloads : List (List ℕ)) × HasFrames image payloads
+    × IsOffFrom payloads position
+ReadsAs image (Err (opening.IllegalEntry position)) = (entries : List Entry) × StandsFor image entries
+    × IsRefusedFrom entries position
 ReadsAs image (Err _) = ⊥

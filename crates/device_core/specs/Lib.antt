@@ -1,8 +1,10 @@
-pub mod Faults
-pub mod State
-pub mod Step
-pub mod Trail
+pub mod View
 pub mod Images
+pub mod Faults
+pub mod Crash
 pub mod Replay
 pub mod Device
-pub mod Crash
+pub mod Caller
+pub mod CrashLaws
+pub mod CallerLaws
+pub mod CallerView

@@ -5,9 +5,9 @@ use Rattle.entry_form.specs.declared.entry.Entry.{Entry}
 use Rattle.entry_codec.specs.Spelling.{Fits}
 use Rattle.device_journal.specs.declared.fault.OpenFault.{OpenFault}
 use Rattle.device_journal.specs.declared.fault.OpenFault.TheVariants.{BadEntry, IllegalEntry, NoMemory}
-use Rattle.device_core.specs.declared.refused.Refused.{Refused}
-use Rattle.device_core.specs.declared.state.State.{State}
-use Rattle.device_core.specs.Step.{step}
+use Rattle.device_rules.specs.declared.refused.Refused.{Refused}
+use Rattle.device_rules.specs.declared.state.State.{State}
+use Rattle.device_rules.specs.Step.{step}
 use Rattle.device_core.specs.Images.{IsOffSpelling, IsOffFrom, IsRefusedFrom, payloads_of}
 
 -- why a payload wasn't read
@@ -29,7 +29,8 @@ IsReadFault payloads _ = ⊥
 
 -- why an entry at this position wasn't replayed
 abbrev pub IsStepFault : State → Entry → ℕ → OpenFault → Type 0
-IsStepFault state entry place (IllegalEntry position) = (position ≡ place) × ((why : Refused) × (step state entry ≡ Err why))
+IsStepFault state entry place (IllegalEntry position) = (position ≡ place)
+    × ((why : Refused) × (step state entry ≡ Err why))
 IsStepFault state entry place NoMemory = Unit {0}
 IsStepFault state entry place _ = ⊥
 
@@ -42,6 +43,7 @@ IsReplayFault entries _ = ⊥
 -- why payloads give no state
 abbrev pub IsRecoverFault : List (List ℕ) → OpenFault → Type 0
 IsRecoverFault payloads (BadEntry position) = IsOffFrom payloads position
-IsRecoverFault payloads (IllegalEntry position) = (entries : List Entry) × IsSpelledBy payloads entries × IsRefusedFrom entries position
+IsRecoverFault payloads (IllegalEntry position) = (entries : List Entry) × IsSpelledBy payloads entries
+    × IsRefusedFrom entries position
 IsRecoverFault payloads NoMemory = Unit {0}
 IsRecoverFault payloads _ = ⊥

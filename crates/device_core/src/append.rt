@@ -1,13 +1,11 @@
 // The parts of an append.
-ghost use Rattle.std.specs.Prelude.{◌≡◌, ◌∷◌, [], ◌++◌, ◌<◌, Ok, IfOk, OnOk, Some, vec_len, vec_capacity};
+ghost use Rattle.std.specs.Prelude.{◌≡◌, ◌∷◌, [], ◌++◌, ◌<◌, Ok, IfOk, OnOk, vec_len, vec_capacity};
 ghost use Rattle.entry_codec.specs.Spelling.{Fits, IsShort, spelling};
-ghost use Rattle.device_core.specs.Step.{step, Prepares};
-ghost use Rattle.device_core.specs.Trail.{marked_at};
+ghost use Rattle.device_rules.specs.Prepared.{Prepares, entry_of};
+ghost use Rattle.device_rules.specs.Step.{step};
+ghost use Rattle.device_rules.specs.Trail.{marked_at};
 
-use crate::answer::Answer;
-use crate::state::State;
-use crate::step::{Prepared, apply};
-use crate::trail::Marked;
+use device_rules::{Answer, Marked, Prepared, State, apply};
 use entry_codec::spell;
 use entry_form::Entry;
 use field_text::NoMemory;
@@ -38,28 +36,12 @@ pub fn make_step(
     prepared: Prepared,
     moment: u64,
 ) -> Answer
-    requires step { Prepares state.old prepared.entry prepared }
+    requires step { Prepares state.old (entry_of prepared) prepared }
     requires room { vec_len entries.old < vec_capacity entries.old }
-    ensures stepped { step state.old prepared.entry ≡ Ok (state.new, result) }
-    ensures kept { entries.new.items ≡ entries.old.items ++ marked_at moment prepared.entry ∷ [] }
+    ensures stepped { step state.old (entry_of prepared) ≡ Ok (state.new, result) }
+    ensures kept { entries.new.items ≡ entries.old.items ++ marked_at moment (entry_of prepared) ∷ [] }
 {
     let (entry, answer) = apply(state, prepared);
     let _pushed = entries.push(Marked { entry, moment });
     answer
-}
-
-// Lets a step go.
-pub fn discard(prepared: Prepared) {
-    let Prepared {
-        entry: _,
-        change: _,
-    } = prepared;
-}
-
-// Keeps the entry of a step whose append met a fault.
-pub fn keep_rest(rest: &mut Option<Entry>, prepared: Prepared)
-    ensures { rest.new ≡ Some prepared.entry }
-{
-    let Prepared { entry, change: _ } = prepared;
-    *rest = Some(entry);
 }

@@ -1,24 +1,28 @@
-ghost use Rattle.std.specs.Prelude.{option_to_list, List, ◌≡◌, ◌≤◌, ◌+◌, ◌++◌, ◌∷◌, [], ◌<◌, ℕ, length, take, Some, None, Ok, Err, IsTrue, IfOk, IfErr, IsErrOf, OnOk};
+ghost use Rattle.std.specs.Prelude.{option_to_list, List, ◌≡◌, ◌≤◌, ◌+◌, ◌++◌, ◌∷◌, [], ◌<◌, ℕ, length, take, Some};
+ghost use Rattle.std.specs.Prelude.{None, Ok, Err, IsTrue, IfOk, IfErr, IsErrOf, OnOk};
 ghost use Rattle.entry_codec.specs.Spelling.{spelling};
 ghost use Rattle.device_journal.specs.Frames.{end_of, limit};
-ghost use Rattle.device_core.specs.State.{initial, answer_to};
-ghost use Rattle.device_core.specs.Step.{is_opening, Prepares};
+ghost use Rattle.field_text.specs.Steps.{Tells};
+ghost use Rattle.device_rules.specs.Answers.{answer_to};
+ghost use Rattle.device_rules.specs.Opened.{is_opening};
+ghost use Rattle.device_rules.specs.Prepared.{Prepares, entry_of};
+ghost use Rattle.device_rules.specs.Refused.{rule_of};
+ghost use Rattle.device_rules.specs.State.{initial};
 ghost use Rattle.device_core.specs.Device.{IsLoaded};
 ghost use Rattle.device_core.specs.Images.{payloads_of};
-ghost use Rattle.device_journal.specs.Moments.{LeavesFrom, LeavesAsRead, IsAsRead};
+ghost use Rattle.device_journal.specs.Moments.{LeavesFrom, LeavesAsRead, IsAsRead, synced_at};
 ghost use Rattle.device_core.specs.Crash.{AddsOnly, Crash, HasAtLeast, HasCrash, LeavesUnopened};
-ghost use Rattle.device_core.specs.Trail.{entries_of, IsLegal, IsOpened, Appends, replay};
-ghost use Rattle.device_core.specs.Faults.{ContentReadsAs, IsFull, IsOpenFault, IsSubmitFault};
+ghost use Rattle.device_rules.specs.Trail.{entries_of, IsLegal, replay};
+ghost use Rattle.device_core.specs.View.{IsOpened, Appends};
+ghost use Rattle.device_core.specs.Faults.{ContentReadsAs, HasRoom, IsAskFault, IsOpenFault, IsSubmitFault};
 
-use crate::answer::Query;
-use crate::append::{discard, keep_rest, make_step, spell_with_room};
-use crate::fault::{SubmitFault, Told, open_fault};
-use crate::refused::Refused;
+use crate::append::{make_step, spell_with_room};
+use crate::fault::open_fault;
 use crate::replay::recover;
-use crate::state::State;
-use crate::step::{Prepared, begin, decide};
-use crate::trail::{Marked, Trail};
 use device_journal::{AppendFault, Journal, OpenFault, open_journal};
+use device_rules::{
+    Marked, Prepared, Query, Refused, State, SubmitFault, Told, Trail, ask, begin, decide,
+};
 use disk_model::Disk;
 use entry_form::{Command, Entry, Hand, Opening};
 use field_text::Items;
@@ -37,7 +41,7 @@ pub struct Device<D: Disk> {
 }
 
 impl<D: Disk> Model for Device<D> {
-    ghost use Rattle.device_core.specs.Trail.{DeviceView};
+    ghost use Rattle.device_core.specs.View.{DeviceView};
 
     ghost Value = { DeviceView D };
 
@@ -46,14 +50,18 @@ impl<D: Disk> Model for Device<D> {
 
     ghost view = { λ d. shown d.journal d.state d.entries.items d.found d.rest };
 
-    ghost invariant = { λ d. IsKept D.content D.since D.clock (journal_length d.journal) (shown d.journal d.state d.entries.items d.found d.rest) };
+    ghost invariant = { λ d. IsKept D.content D.since D.clock (journal_length d.journal)
+        (shown d.journal d.state d.entries.items d.found d.rest) };
 }
 
 // A device with the entries of a disk's journal.
 fn load<D: Disk>(alloc: Global, disk: D) -> Result<Device<D>, (D, OpenFault)>
     ensures loaded { IfOk result IsLoaded }
-    ensures any_moment { IfOk result (λ device. LeavesFrom D.clock D.since disk device.disk device.opened (HasAtLeast (entries_of device.entries) device.found)) }
-    ensures as_read { IfOk result (λ device. LeavesFrom D.clock D.since disk device.disk device.opened (IsAsRead (D.content disk))) }
+    ensures moment { IfOk result (λ device. device.opened ≡ synced_at D.clock disk) }
+    ensures any_moment { IfOk result (λ device. LeavesFrom D.clock D.since disk device.disk device.opened
+        (HasAtLeast (entries_of device.entries) device.found)) }
+    ensures as_read { IfOk result (λ device. LeavesFrom D.clock D.since disk device.disk device.opened
+        (IsAsRead (D.content disk))) }
     ensures any_moment_err { IfErr result (λ e. LeavesAsRead D.clock D.may D.since (D.content disk) disk e.0) }
     ensures read { IfOk result (λ device. ContentReadsAs D.content disk (Ok (entries_of device.entries))) }
     ensures kept { IfOk result (λ device. D.faults device.disk ≡ D.faults disk) }
@@ -88,21 +96,25 @@ impl<D: Disk> Device<D> {
     ) -> Result<Device<D>, (D, OpenFault)>
         requires { IsTrue (is_opening opening) }
         ensures opened { IfOk result (IsOpened (Entry.Opened opening)) }
-        ensures read { IfOk result (λ device. ContentReadsAs D.content disk (Ok (take device.found (entries_of device.entries)))) }
+        ensures read { IfOk result (λ device. ContentReadsAs D.content disk
+            (Ok (take device.found (entries_of device.entries)))) }
         ensures kept { IfOk result (λ device. D.faults device.disk ≡ D.faults disk) }
         ensures fault { IfErr result (λ e. IsOpenFault D.content D.faults (Entry.Opened opening) disk e.0 e.1) }
-        ensures room { IfOk result (λ device. end_of (payloads_of (take device.found (entries_of device.entries))) + 5 + length (spelling (Entry.Opened opening)) ≤ limit) }
+        ensures room { IfOk result (λ device. HasRoom (take device.found (entries_of device.entries))
+            (Entry.Opened opening)) }
 
-        // Until the first sync a crash leaves what it might have left before; from then on the entries found, or these and
-        // the opening.
-        ensures any_moment { IfOk result (λ device. LeavesFrom D.clock D.since disk device.disk device.opened (HasAtLeast (entries_of device.entries) device.found)) }
-        ensures any_moment_err { IfErr result (λ e. LeavesUnopened D.clock D.may D.since (D.content disk) (Entry.Opened opening) disk e.0) }
+        // The moment of the opening is that right after its first sync.
+        ensures moment { IfOk result (λ device. device.opened ≡ synced_at D.clock disk) }
+
+        // Until the first sync a crash leaves what it might have left before; from then on the entries found, or
+        // these and the opening.
+        ensures any_moment { IfOk result (λ device. LeavesFrom D.clock D.since disk device.disk device.opened
+            (HasAtLeast (entries_of device.entries) device.found)) }
+        ensures any_moment_err { IfErr result
+            (λ e. LeavesUnopened D.clock D.may D.since (D.content disk) (Entry.Opened opening) e.1 disk e.0) }
         ensures crash { IfOk result (HasCrash D.since D.clock) }
     {
-        let mut device = match load(alloc, disk) {
-            Ok(device) => device,
-            Err((disk, fault)) => return Err((disk, fault)),
-        };
+        let mut device = load(alloc, disk)?;
         let Ok(prepared) = begin(alloc, &device.state, opening) else {
             return Err((device.into_disk(), OpenFault::NoMemory));
         };
@@ -112,25 +124,31 @@ impl<D: Disk> Device<D> {
         }
     }
 
-    /// Carries a hand's command out. At `Ok` its entry lasts. After a fault of the disk the device refuses each command.
+    /// Carries a hand's command out. At `Ok` its entry lasts. After a fault of the disk the device refuses each
+    /// command.
     pub fn submit(
         &mut self,
         alloc: Global,
         hand: Hand,
         command: Command,
     ) -> Result<Told, SubmitFault>
-        ensures appended { IfOk result (λ told. Appends (Entry.Done hand command) told.position told.answer self.old self.new) }
+        ensures appended { IfOk result
+            (λ told. Appends (Entry.Done hand command) told.position told.answer self.old self.new) }
         ensures kept { IfOk result (λ told. D.faults self.new.disk ≡ D.faults self.old.disk) }
+        ensures later { D.faults self.old.disk ≤ D.faults self.new.disk }
         ensures fault { IfErr result (IsSubmitFault D.content D.faults (Entry.Done hand command) self.old self.new) }
         ensures failed { (count : ℕ) → self.old.failed ≡ Some count → result ≡ Err (SubmitFault.Failed count) }
-        ensures full { (size : ℕ) → IsErrOf result (SubmitFault.Full size) → IsFull (entries_of self.old.entries) (Entry.Done hand command) size }
-        ensures room { OnOk result (end_of (payloads_of (entries_of self.old.entries)) + 5 + length (spelling (Entry.Done hand command)) ≤ limit) }
+        ensures room { OnOk result (HasRoom (entries_of self.old.entries) (Entry.Done hand command)) }
+        ensures legal { IsLegal initial (entries_of self.new.entries ++ option_to_list self.new.rest) }
         ensures opened { self.new.opened ≡ self.old.opened }
-        ensures stopped { IsErrOf result SubmitFault.DiskFault → (self.new.failed ≡ Some (D.faults self.new.disk)) × (self.new.rest ≡ Some (Entry.Done hand command)) }
+        ensures stopped { IsErrOf result SubmitFault.DiskFault → (self.new.failed ≡ Some (D.faults self.new.disk))
+            × (self.new.rest ≡ Some (Entry.Done hand command)) }
 
         // A crash at any moment of the call leaves the entries from before it, with the new one or without.
-        ensures any_moment { AddsOnly D.since D.clock self.old.disk self.new.disk (HasAtLeast (entries_of self.new.entries ++ option_to_list self.new.rest) (length self.old.entries)) }
-        ensures durable { IfOk result (λ told. (c : List ℕ) → D.since self.new.disk (D.clock self.new.disk) c → HasAtLeast (entries_of self.new.entries) told.position c) }
+        ensures any_moment { AddsOnly D.since D.clock self.old.disk self.new.disk
+            (HasAtLeast (entries_of self.new.entries ++ option_to_list self.new.rest) (length self.old.entries)) }
+        ensures durable { IfOk result (λ told. (c : List ℕ) → D.since self.new.disk (D.clock self.new.disk) c
+            → HasAtLeast (entries_of self.new.entries) told.position c) }
         ensures crash { HasCrash D.since D.clock self.new }
     {
         if let Some(faults) = self.journal.failed() {
@@ -147,17 +165,23 @@ impl<D: Disk> Device<D> {
 
     // Makes the entry of a step last, and makes the step.
     fn append(&mut self, alloc: Global, prepared: Prepared) -> Result<Told, SubmitFault>
-        requires { Prepares self.old.state prepared.entry prepared }
-        ensures appended { IfOk result (λ told. Appends prepared.entry told.position told.answer self.old self.new) }
+        requires { Prepares self.old.state (entry_of prepared) prepared }
+        ensures appended { IfOk result
+            (λ told. Appends (entry_of prepared) told.position told.answer self.old self.new) }
         ensures kept { IfOk result (λ told. D.faults self.new.disk ≡ D.faults self.old.disk) }
-        ensures fault { IfErr result (IsSubmitFault D.content D.faults prepared.entry self.old self.new) }
-        ensures refused { (position : ℕ) (why : _) → IsErrOf result (SubmitFault.Refused position why) → why ≡ Refused.NoMemory }
-        ensures full { (size : ℕ) → IsErrOf result (SubmitFault.Full size) → IsFull (entries_of self.old.entries) prepared.entry size }
-        ensures room { OnOk result (end_of (payloads_of (entries_of self.old.entries)) + 5 + length (spelling prepared.entry) ≤ limit) }
+        ensures later { D.faults self.old.disk ≤ D.faults self.new.disk }
+        ensures fault { IfErr result (IsSubmitFault D.content D.faults (entry_of prepared) self.old self.new) }
+        ensures refused { (position : ℕ) (why : _) → IsErrOf result (SubmitFault.Refused position why)
+            → why ≡ Refused.NoMemory }
+        ensures room { OnOk result (HasRoom (entries_of self.old.entries) (entry_of prepared)) }
+        ensures legal { IsLegal initial (entries_of self.new.entries ++ option_to_list self.new.rest) }
         ensures opened { self.new.opened ≡ self.old.opened }
-        ensures stopped { IsErrOf result SubmitFault.DiskFault → (self.new.failed ≡ Some (D.faults self.new.disk)) × (self.new.rest ≡ Some prepared.entry) }
-        ensures any_moment { AddsOnly D.since D.clock self.old.disk self.new.disk (HasAtLeast (entries_of self.new.entries ++ option_to_list self.new.rest) (length self.old.entries)) }
-        ensures durable { IfOk result (λ told. (c : List ℕ) → D.since self.new.disk (D.clock self.new.disk) c → HasAtLeast (entries_of self.new.entries) told.position c) }
+        ensures stopped { IsErrOf result SubmitFault.DiskFault → (self.new.failed ≡ Some (D.faults self.new.disk))
+            × (self.new.rest ≡ Some (entry_of prepared)) }
+        ensures any_moment { AddsOnly D.since D.clock self.old.disk self.new.disk
+            (HasAtLeast (entries_of self.new.entries ++ option_to_list self.new.rest) (length self.old.entries)) }
+        ensures durable { IfOk result (λ told. (c : List ℕ) → D.since self.new.disk (D.clock self.new.disk) c
+            → HasAtLeast (entries_of self.new.entries) told.position c) }
         ensures crash { HasCrash D.since D.clock self.new }
     {
         let Ok(payload) = spell_with_room(alloc, prepared.entry(), &mut self.entries) else {
@@ -172,16 +196,10 @@ impl<D: Disk> Device<D> {
                 let position = self.entries.len() as u64;
                 Ok(Told { position, answer })
             }
-            Err(AppendFault::Full { length }) => {
-                discard(prepared);
-                Err(SubmitFault::Full { length })
-            }
-            Err(AppendFault::Failed { faults }) => {
-                discard(prepared);
-                Err(SubmitFault::Failed { faults })
-            }
+            Err(AppendFault::Full { length }) => Err(SubmitFault::Full { length }),
+            Err(AppendFault::Failed { faults }) => Err(SubmitFault::Failed { faults }),
             Err(AppendFault::DiskFault) => {
-                keep_rest(&mut self.rest, prepared);
+                self.rest = Some(prepared.into_entry());
                 Err(SubmitFault::DiskFault)
             }
         }
@@ -200,16 +218,27 @@ impl<D: Disk> Device<D> {
         journal.into_disk()
     }
 
-    /// The answer to a query on the device's state, with the number of entries behind which it holds.
-    pub fn ask(&self, query: Query) -> Told
-        ensures position { result.position ≡ length self.now.entries }
-        ensures answer { result.answer ≡ answer_to self.now.state query }
+    /// What a hand's query is answered on the device's state, with the number of entries behind which this holds. It
+    /// may be refused for want of memory.
+    pub fn ask(&self, alloc: Global, hand: Hand, query: &Query) -> Result<Told, SubmitFault>
+        ensures told { IfOk result (λ told. (told.position ≡ length self.now.entries)
+            × (answer_to self.now.state hand query.now ≡ Ok told.answer)) }
+        ensures refused { IfErr result (IsAskFault self.now hand query.now) }
         ensures legal { replay initial (entries_of self.now.entries) ≡ Some self.now.state }
     {
-        Told {
-            position: self.position(),
-            answer: self.state.answer(query),
+        let position = self.position();
+        match ask(alloc, &self.state, hand, query) {
+            Ok(answer) => Ok(Told { position, answer }),
+            Err(why) => Err(SubmitFault::Refused { position, why }),
         }
+    }
+
+    /// The disk's count of faults.
+    pub fn fault_count(&self) -> u64
+        ensures count { result ≡ D.faults self.now.disk }
+        ensures legal { IsLegal initial (entries_of self.now.entries ++ option_to_list self.now.rest) }
+    {
+        self.journal.fault_count()
     }
 
     /// The number of entries.
@@ -227,7 +256,8 @@ impl<D: Disk> Device<D> {
         ensures entries { result.1.entries ≡ self.entries }
         ensures legal { replay initial (entries_of self.entries) ≡ Some self.state }
         ensures rest { IsLegal initial (entries_of self.entries ++ option_to_list self.rest) }
-        ensures crash { Crash D.since D.clock result.0 self.opened self.found result.1.entries (option_to_list self.rest) }
+        ensures crash { Crash D.since D.clock result.0 self.opened self.found result.1.entries
+            (option_to_list self.rest) }
     {
         let Device {
             journal,

@@ -6,5 +6,6 @@ ghost use Rattle.device_core.specs.Images.{ReadsAs};
 
 /// A law of the definitions: an image reads as one list of entries, or has one thing wrong with it.
 pub fn an_image_reads_as_one_thing()
-    ensures { (image : List ℕ) (one other : Result (List Entry) OpenFault) → ReadsAs image one → ReadsAs image other → one ≡ other }
+    ensures { (image : List ℕ) (one other : Result (List Entry) OpenFault) → ReadsAs image one → ReadsAs image other
+        → one ≡ other }
 {}

@@ -4,16 +4,15 @@ ghost use Rattle.std.specs.List.{AllByRecursion};
 ghost use Rattle.device_journal.specs.declared.fault.OpenFault.TheVariants.{NoMemory as Starved};
 ghost use Rattle.entry_codec.specs.Spelling.{Fits, spelling};
 ghost use Rattle.device_core.specs.Images.{IsOffSpelling};
-ghost use Rattle.device_core.specs.Replay.{IsUnread, IsSpelledBy, IsReadFault, IsStepFault, IsReplayFault, IsRecoverFault};
-ghost use Rattle.device_core.specs.State.{initial};
-ghost use Rattle.device_core.specs.Step.{Prepares, IsRefused};
-ghost use Rattle.device_core.specs.Trail.{entries_of, marked_at, replay, state_after};
+ghost use Rattle.device_core.specs.Replay.{IsUnread, IsSpelledBy, IsReadFault, IsStepFault, IsReplayFault};
+ghost use Rattle.device_core.specs.Replay.{IsRecoverFault};
+ghost use Rattle.device_rules.specs.State.{initial};
+ghost use Rattle.device_rules.specs.Prepared.{Prepares};
+ghost use Rattle.device_rules.specs.Step.{IsRefused};
+ghost use Rattle.device_rules.specs.Trail.{entries_of, marked_at, replay, state_after};
 
-use crate::refused::Refused;
-use crate::state::State;
-use crate::step::{Prepared, apply, begin, decide};
-use crate::trail::Marked;
 use device_journal::OpenFault;
+use device_rules::{Marked, Prepared, Refused, State, apply, begin, decide};
 use entry_codec::{EntryRefused, read_entry};
 use entry_form::Entry;
 use field_text::Blob;
@@ -44,36 +43,18 @@ pub fn read_payloads(alloc: Global, payloads: &[Blob]) -> Result<Vec<Entry>, Ope
     let mut entries = Vec::new(alloc);
     for payload in payloads {
         let position = entries.as_slice().len() as u64 + 1;
-        match read_payload(alloc, payload.bytes(), position) {
-            Ok(entry) => {
-                if entries.push(entry).is_err() {
-                    return Err(OpenFault::NoMemory);
-                }
-            }
-            Err(fault) => return Err(fault),
-        }
+        entries.push(read_payload(alloc, payload.bytes(), position)?)?;
     }
     Ok(entries)
 }
 
 fn prepare(alloc: Global, state: &State, entry: Entry) -> Result<Prepared, Refused>
-    ensures prepared { IfOk result (λ p. Prepares state.now entry p) }
+    ensures prepared { IfOk result (Prepares state.now entry) }
     ensures refused { IfErr result (IsRefused state.now entry) }
 {
     match entry {
         Entry::Opened(opening) => begin(alloc, state, opening),
         Entry::Done { hand, command } => decide(state, hand, command),
-    }
-}
-
-// Keeps an entry with its moment.
-fn keep(marked: &mut Vec<Marked>, entry: Entry, moment: u64) -> Result<(), OpenFault>
-    ensures kept { OnOk result (marked.new.items ≡ marked.old.items ++ marked_at moment entry ∷ []) }
-    ensures fault { IfErr result (λ fault. fault ≡ Starved) }
-{
-    match marked.push(Marked { entry, moment }) {
-        Ok(()) => Ok(()),
-        Err(_) => Err(OpenFault::NoMemory),
     }
 }
 
@@ -93,7 +74,8 @@ fn step_on(
     match prepare(alloc, state, entry) {
         Ok(prepared) => {
             let (entry, _answer) = apply(state, prepared);
-            keep(marked, entry, moment)
+            marked.push(Marked { entry, moment })?;
+            Ok(())
         }
         Err(Refused::NoMemory) => Err(OpenFault::NoMemory),
         Err(_) => Err(OpenFault::IllegalEntry { position }),
@@ -132,8 +114,6 @@ pub fn recover(
     ensures marked { IfOk result (λ r. r.1.items ≡ map (marked_at moment) (entries_of r.1.items)) }
     ensures fault { IfErr result (IsRecoverFault payloads.now) }
 {
-    match read_payloads(alloc, payloads) {
-        Ok(entries) => replay(alloc, entries, moment),
-        Err(fault) => Err(fault),
-    }
+    let entries = read_payloads(alloc, payloads)?;
+    replay(alloc, entries, moment)
 }

@@ -1,6 +1,7 @@
 use crate::*;
+use device_rules::{Answer, Caller, Query, Refused, Settings, SubmitFault, Told, is_opening};
 use disk_model::{FusedDisk, MemDisk};
-use entry_form::{Command, Entry, Hand, Opening};
+use entry_form::{Command, Hand, Opening};
 use field_text::{Mode, NoMemory, Text};
 use std::alloc::Global;
 use std::test::Fail;
@@ -20,42 +21,6 @@ fn disk_of(alloc: Global, bytes: &[u8]) -> Result<MemDisk, NoMemory> {
 const IMAGE: &[u8] =
     b"ODKDEV01\xA7\x23\0\0\0\x01\0\x01\0\0\0\0\0\0\0\x15\0\0\0http://localhost:8080\xA7\x03\0\0\0\x02\0\x01\xA7\x03\0\0\0\x03\0\x02\0";
 
-#[test]
-fn steps_are_prepared_and_made(rt: HostRuntime) -> Result<(), Fail> {
-    let alloc = rt.alloc();
-    let mut state = State::initial(alloc);
-    let tick = decide(&state, Hand::Script, Command::Tick);
-    assert!(rt; matches!(tick, Err(Refused::NotBuilt)));
-    let mut elsewhere = own_opening(alloc)?;
-    elsewhere.device = 1 << 48;
-    assert!(rt; !is_opening(&elsewhere));
-    assert!(rt; matches!(begin(alloc, &state, elsewhere), Err(Refused::BadValue)));
-    let Ok(prepared) = decide(&state, Hand::Sender, Command::AutoSend(true)) else {
-        return Err("refused".into());
-    };
-    assert!(rt;
-        matches!(
-            prepared.entry(),
-            Entry::Done {
-                hand: Hand::Sender,
-                command: Command::AutoSend(true)
-            }
-        )
-    );
-    let (_entry, answer) = apply(&mut state, prepared);
-    assert_eq!(rt; answer, Answer::Done);
-    assert_eq!(rt; state.position, 1);
-    assert_eq!(rt;
-        state.answer(Query::Settings),
-        Answer::Settings(Settings {
-            mode: Mode::Manual,
-            auto_send: true
-        })
-    );
-    an_image_reads_as_one_thing();
-    Ok(())
-}
-
 fn opened(alloc: Global, disk: MemDisk) -> Result<Device<MemDisk>, Fail> {
     let opening = own_opening(alloc)?;
     if !is_opening(&opening) {
@@ -72,22 +37,13 @@ fn commands_last(rt: HostRuntime) -> Result<(), Fail> {
     let alloc = rt.alloc();
     let mut device = opened(alloc, disk_of(alloc, b"")?)?;
     let on = device.submit(alloc, Hand::Script, Command::AutoSend(true));
-    let done = Answer::Done;
-    assert_eq!(rt;
-        on,
-        Ok(Told {
-            position: 2,
-            answer: done
-        })
-    );
+    let told = Told {
+        position: 2,
+        answer: Answer::Done,
+    };
+    assert_eq!(rt; on, Ok(told));
     let exact = device.submit(alloc, Hand::Script, Command::UpdateMode(Mode::Exact));
-    assert_eq!(rt;
-        exact,
-        Ok(Told {
-            position: 3,
-            answer: done
-        })
-    );
+    assert!(rt; exact.is_ok());
     let tick = device.submit(alloc, Hand::Script, Command::Tick);
     let why = Refused::NotBuilt;
     assert_eq!(rt; tick, Err(SubmitFault::Refused { position: 3, why }));
@@ -95,14 +51,47 @@ fn commands_last(rt: HostRuntime) -> Result<(), Fail> {
         mode: Mode::Exact,
         auto_send: true,
     };
-    assert_eq!(rt;
-        device.ask(Query::Settings).answer,
-        Answer::Settings(settings)
-    );
+    let told = Told {
+        position: 3,
+        answer: Answer::Settings(settings),
+    };
+    assert_eq!(rt; device.ask(alloc, Hand::Sender, &Query::Settings), Ok(told));
     assert_eq!(rt; device.position(), 3);
+    assert_eq!(rt; device.fault_count(), 0);
     let (disk, trail) = device.into_parts(alloc);
     assert_eq!(rt; disk.bytes(), IMAGE);
     assert_eq!(rt; trail.entries.len(), 3);
+    an_image_reads_as_one_thing();
+    Ok(())
+}
+
+// The position told, and 10 more for a refusal.
+fn position_of(answer: Result<Told, SubmitFault>) -> u64 {
+    match answer {
+        Ok(told) => told.position,
+        Err(SubmitFault::Refused { position, .. }) => position.saturating_add(10),
+        Err(SubmitFault::Full { .. } | SubmitFault::DiskFault | SubmitFault::Failed { .. }) => 99,
+    }
+}
+
+// A command, a refused one and a query of any caller.
+fn play<K: Caller>(alloc: Global, caller: &mut K) -> [u64; 3] {
+    [
+        position_of(caller.call(alloc, Command::AutoSend(true))),
+        position_of(caller.call(alloc, Command::Tick)),
+        position_of(caller.look(alloc, &Query::Settings)),
+    ]
+}
+
+#[test]
+fn a_hand_calls_a_device(rt: HostRuntime) -> Result<(), Fail> {
+    let alloc = rt.alloc();
+    let mut caller = DeviceCaller::new(opened(alloc, disk_of(alloc, b"")?)?);
+    assert_eq!(rt; play(alloc, &mut caller), [2, 12, 2]);
+    assert_eq!(rt; caller.hand(), Hand::Script);
+    assert_eq!(rt; caller.due(), 0);
+    assert!(rt; caller.closing());
+    assert_eq!(rt; caller.into_device().position(), 2);
     Ok(())
 }
 

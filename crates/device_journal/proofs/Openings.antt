@@ -4,7 +4,7 @@ use Rattle.std.specs.Prelude.{Option, Some, option_map}
 use Rattle.std.proofs.lemmas.List.{drop_all, append-nil}
 use Rattle.disk_model.specs.Disk.{written, Torn, Only, AddsImages, AddsNoImage}
 use Rattle.device_journal.specs.Frames.{start, HasFrames}
-use Rattle.device_journal.specs.Moments.{LeavesOnly, LeavesFrom, LeavesAsRead, synced, IsAsRead}
+use Rattle.device_journal.specs.Moments.{LeavesOnly, LeavesFrom, LeavesAsRead, synced, synced_at, IsAsRead}
 use Rattle.device_journal.specs.Opened.{IsOpened}
 use Rattle.device_journal.specs.Sound.{EndsAt}
 use Rattle.device_journal.proofs.Calls.{begun, after_images, some_of_map}
@@ -48,11 +48,8 @@ module _ {D : Type 0} (clock : D → ℕ) (may : D → List ℕ → Type 0) (sin
       let leaves' = subst (λ (o : Option (List ℕ)). LeavesOnly clock since mid new (IsAsRead o)) same leaves in
       subst (λ (k : ℕ). LeavesFrom clock since old new k (IsAsRead (content old))) (sym is) (from_sync clock may since content old mid new (IsAsRead (content old)) sync leaves')
 
-  pub failed_after : (new : D) → LeavesOnly clock since mid new (IsAsRead (content mid)) → LeavesAsRead clock may since (content old) old new
-  failed_after new leaves = synced (clock mid) (from_first new (clock mid) refl leaves)
-
-  pub failed_at_once : Only (content mid) (may mid) → ((c : List ℕ) → since mid (clock mid) c → may mid c) → LeavesAsRead clock may since (content old) old mid
-  failed_at_once only only_now = failed_after mid (as_read clock may since content mid only only_now)
+  pub failed_after : (new : D) → clock mid ≡ synced_at clock old → LeavesOnly clock since mid new (IsAsRead (content mid)) → LeavesAsRead clock may since (content old) old new
+  failed_after new next leaves = synced (from_first new (synced_at clock old) (sym next) leaves)
 
 -- at most 9 bytes written over are the new ones alone
 start_is : (image : List ℕ) → length image ≤ 9 → written 0 start image ≡ start

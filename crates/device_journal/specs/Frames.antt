@@ -65,8 +65,10 @@ pub record IsCut (image : List ℕ) (payloads : List (List ℕ)) : Type 0 where
 -- frame that is none, and at the limit where it is longer and nothing else is off.
 pub data IsOffAt (image : List ℕ) (at : ℕ) : Type 0 where
   no_header : 9 < length image → ¬ BeginsWith image header → at ≡ 0 → IsOffAt image at
-  no_frame : 9 < length image → (payloads : List (List ℕ)) → IsCut image payloads → at ≡ 8 + length (chain payloads) → IsOffAt image at
-  too_long : limit < length image → (payloads : List (List ℕ)) → IsSpelled image payloads → at ≡ limit → IsOffAt image at
+  no_frame : 9 < length image → (payloads : List (List ℕ)) → IsCut image payloads → at ≡ 8 + length (chain payloads)
+      → IsOffAt image at
+  too_long : limit < length image → (payloads : List (List ℕ)) → IsSpelled image payloads → at ≡ limit
+      → IsOffAt image at
 
 -- one more than the place of the gate behind these frames
 abbrev pub end_of : List (List ℕ) → ℕ

@@ -1,6 +1,6 @@
 -- What a crash at each moment of a call leaves.
 use Rattle.std.specs.Prelude.{◌≡◌, ◌⊎◌, ℕ, ◌≤◌, List, length, Option, Some}
-use Rattle.disk_model.specs.Disk.{AddsNoImage}
+use Rattle.disk_model.specs.Disk.{AddsNoImage, counted}
 
 module _ {D : Type 0} (clock : D → ℕ) (since : D → ℕ → List ℕ → Type 0) where
   -- a crash at any moment from old to new leaves what has P
@@ -21,7 +21,13 @@ module _ {D : Type 0} (clock : D → ℕ) (since : D → ℕ → List ℕ → Ty
 abbrev pub IsAsRead : Option (List ℕ) → List ℕ → Type 0
 IsAsRead content c = (image : List ℕ) × (content ≡ Some image) × ((c ≡ image) ⊎ ((length image ≤ 9) × (length c ≤ 9)))
 
--- Opening a disk failed: no image was added, or none since some moment but the bytes as they were read.
-pub data LeavesAsRead {D : Type 0} (clock : D → ℕ) (may : D → List ℕ → Type 0) (since : D → ℕ → List ℕ → Type 0) (content : Option (List ℕ)) (old new : D) : Type 0 where
+-- the moment of a disk right after its next sync, where that is the next call and succeeds
+abbrev pub synced_at : {D : Type 0} → (D → ℕ) → D → ℕ
+synced_at clock disk = counted (clock disk)
+
+-- Opening a disk failed: no image was added, or none since its first sync but the bytes as they were read.
+pub data LeavesAsRead {D : Type 0} (clock : D → ℕ) (may : D → List ℕ → Type 0) (since : D → ℕ → List ℕ → Type 0)
+    (content : Option (List ℕ)) (old new : D) : Type 0 where
   unsynced : AddsNoImage clock may since old new → LeavesAsRead clock may since content old new
-  synced : (t : ℕ) → LeavesFrom clock since old new t (IsAsRead content) → LeavesAsRead clock may since content old new
+  synced : LeavesFrom clock since old new (synced_at clock old) (IsAsRead content)
+      → LeavesAsRead clock may since content old new

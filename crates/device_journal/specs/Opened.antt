@@ -3,7 +3,8 @@ use Rattle.std.specs.Prelude.{◌≡◌, ℕ, ◌+◌, ◌<◌, List, Option, So
 use Rattle.device_journal.specs.Frames.{limit, end_of, Stands}
 use Rattle.device_journal.specs.Sound.{HasEnd}
 use Rattle.device_journal.specs.declared.fault.OpenFault.{OpenFault}
-use Rattle.device_journal.specs.declared.fault.OpenFault.TheVariants.{DiskFault, BadJournal, BadEntry, IllegalEntry, Full, NoMemory}
+use Rattle.device_journal.specs.declared.fault.OpenFault.TheVariants.{DiskFault, BadJournal, BadEntry, IllegalEntry}
+use Rattle.device_journal.specs.declared.fault.OpenFault.TheVariants.{Full, NoMemory}
 
 -- the faults of an opening that knows nothing of entries
 abbrev pub OfOpening : OpenFault → Type 0

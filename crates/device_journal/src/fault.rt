@@ -1,3 +1,8 @@
+ghost use Rattle.std.specs.Prelude.{◌≡◌};
+ghost use Rattle.device_journal.specs.declared.fault.OpenFault.TheVariants.{DiskFault as Failing, NoMemory as Starved};
+
+use field_io::Failed;
+use std::alloc::{AllocError, AllocFailed};
 use thiserror::Error;
 
 /// Why a device's journal wasn't opened.
@@ -20,6 +25,38 @@ pub enum OpenFault {
     Full { length: u64 },
     #[error("no memory")]
     NoMemory,
+}
+
+impl From<Failed> for OpenFault {
+    ghost from_gives = { λ _ e. e ≡ Failing };
+
+    fn from(_: Failed) -> OpenFault {
+        OpenFault::DiskFault
+    }
+}
+
+impl From<field_text::NoMemory> for OpenFault {
+    ghost from_gives = { λ _ e. e ≡ Starved };
+
+    fn from(_: field_text::NoMemory) -> OpenFault {
+        OpenFault::NoMemory
+    }
+}
+
+impl From<AllocError> for OpenFault {
+    ghost from_gives = { λ _ e. e ≡ Starved };
+
+    fn from(_: AllocError) -> OpenFault {
+        OpenFault::NoMemory
+    }
+}
+
+impl<T: Drop> From<AllocFailed<T>> for OpenFault {
+    ghost from_gives = { λ _ e. e ≡ Starved };
+
+    fn from(_: AllocFailed<T>) -> OpenFault {
+        OpenFault::NoMemory
+    }
 }
 
 /// Why a payload wasn't appended.

@@ -1,5 +1,6 @@
 // The frames of a journal's image.
-ghost use Rattle.std.specs.Prelude.{◌≡◌, ◌+◌, ◌≤◌, ◌<◌, ◌^◌, ◌++◌, ◌∷◌, [], List, ℕ, Some, length, take, OnOk, option_map};
+ghost use Rattle.std.specs.Prelude.{◌≡◌, ◌+◌, ◌≤◌, ◌<◌, ◌^◌, ◌++◌, ◌∷◌, [], List, ℕ, Some, length, take, OnOk};
+ghost use Rattle.std.specs.Prelude.{option_map};
 ghost use Rattle.field_io.specs.Causes.{HasCause};
 ghost use Rattle.disk_model.specs.Disk.{Only, written};
 ghost use Rattle.device_journal.specs.Frames.{Stands, limit};
@@ -20,7 +21,8 @@ pub const FRAME_SPACE: usize = 524_288;
 fn write_synced<D: Disk>(disk: &mut D, at: u64, bytes: &[u8]) -> Result<(), Failed>
     requires only { Only (D.content disk.old) (D.may disk.old) }
     requires within { (image : List ℕ) → D.content disk.old ≡ Some image → at ≤ length image }
-    ensures any_moment { LeavesOnly D.clock D.since disk.old disk.new (IsTorn (D.content disk.old) at (length bytes.now)) }
+    ensures any_moment { LeavesOnly D.clock D.since disk.old disk.new
+        (IsTorn (D.content disk.old) at (length bytes.now)) }
     ensures written { OnOk result (D.content disk.new ≡ option_map (written at bytes.now) (D.content disk.old)) }
     ensures only_new { OnOk result (Only (D.content disk.new) (D.may disk.new)) }
     ensures cause { HasCause (D.faults disk.old) (D.faults disk.new) result }
@@ -72,7 +74,8 @@ pub fn write_payload<D: Disk>(
     ensures stands { OnOk result ((payloads : List (List ℕ)) → Stands (D.content disk.old) payloads
         → Stands (D.content disk.new) (payloads ++ payload.now ∷ [])) }
     ensures only_new { OnOk result (Only (D.content disk.new) (D.may disk.new)) }
-    ensures ends_new { OnOk result ((image : List ℕ) → D.content disk.new ≡ Some image → ∥ HasEnd image (gate + 5 + length payload.now) ∥₁) }
+    ensures ends_new { OnOk result ((image : List ℕ) → D.content disk.new ≡ Some image
+        → ∥ HasEnd image (gate + 5 + length payload.now) ∥₁) }
     ensures cause { HasCause (D.faults disk.old) (D.faults disk.new) result }
 {
     fill(room, payload);

@@ -1,5 +1,6 @@
 // A journal: payloads are added at its end, each durable once its append has answered.
-ghost use Rattle.std.specs.Prelude.{◌≡◌, ◌+◌, ◌<◌, ◌≤◌, ◌++◌, ◌∷◌, [], List, ℕ, None, Some, Err, length, vec_len, OnOk, IfOk, IsErrOf};
+ghost use Rattle.std.specs.Prelude.{◌≡◌, ◌+◌, ◌<◌, ◌≤◌, ◌++◌, ◌∷◌, [], List, ℕ, None, Some, Err, length, vec_len};
+ghost use Rattle.std.specs.Prelude.{OnOk, IfOk, IsErrOf};
 ghost use Rattle.field_io.specs.Causes.{Rose};
 ghost use Rattle.disk_model.specs.Disk.{Only};
 ghost use Rattle.device_journal.specs.Frames.{HasFrames, Stands, limit};
@@ -58,30 +59,39 @@ impl<D: Disk> Journal<D> {
         requires small { length payload.now ≤ 524283 }
 
         // A crash at any moment of the call leaves the payloads from before it, with the new one or without.
-        ensures any_moment { journal_failed self.old ≡ None → (payloads : List (List ℕ)) → Stands (D.content (journal_disk self.old)) payloads
-            → LeavesOnly D.clock D.since (journal_disk self.old) (journal_disk self.new) (IsBeforeOrAfter payloads payload.now) }
+        ensures any_moment { journal_failed self.old ≡ None → (payloads : List (List ℕ))
+            → Stands (D.content (journal_disk self.old)) payloads
+            → LeavesOnly D.clock D.since (journal_disk self.old) (journal_disk self.new)
+            (IsBeforeOrAfter payloads payload.now) }
 
         ensures opened { journal_opened self.new ≡ journal_opened self.old }
         ensures kept { OnOk result (D.faults (journal_disk self.new) ≡ D.faults (journal_disk self.old)) }
+        ensures later { D.faults (journal_disk self.old) ≤ D.faults (journal_disk self.new) }
 
         ensures moment { IfOk result (λ moment. moment ≡ D.clock (journal_disk self.new)) }
         ensures durable { (payloads : List (List ℕ)) → Stands (D.content (journal_disk self.old)) payloads
-            → IfOk result (λ moment. (c : List ℕ) → D.since (journal_disk self.new) moment c → HasFrames c (payloads ++ payload.now ∷ [])) }
+            → IfOk result (λ moment. (c : List ℕ) → D.since (journal_disk self.new) moment c
+            → HasFrames c (payloads ++ payload.now ∷ [])) }
         ensures stands { (payloads : List (List ℕ)) → Stands (D.content (journal_disk self.old)) payloads
             → OnOk result (Stands (D.content (journal_disk self.new)) (payloads ++ payload.now ∷ [])) }
         ensures length { OnOk result (journal_length self.new ≡ journal_length self.old + 5 + length payload.now) }
         ensures sound { OnOk result (journal_failed self.new ≡ None) }
 
-        ensures failed { (faults : ℕ) → journal_failed self.old ≡ Some faults → result ≡ Err (AppendFault.Failed faults) }
-        ensures failed_only { (faults : ℕ) → IsErrOf result (AppendFault.Failed faults) → journal_failed self.old ≡ Some faults }
+        ensures failed { (faults : ℕ) → journal_failed self.old ≡ Some faults
+            → result ≡ Err (AppendFault.Failed faults) }
+        ensures failed_only { (faults : ℕ) → IsErrOf result (AppendFault.Failed faults)
+            → journal_failed self.old ≡ Some faults }
         ensures full { journal_failed self.old ≡ None → limit < journal_length self.old + 5 + length payload.now
             → result ≡ Err (AppendFault.Full (journal_length self.old)) }
         ensures full_only { (size : ℕ) → IsErrOf result (AppendFault.Full size)
-            → (journal_failed self.old ≡ None) × (size ≡ journal_length self.old) × (limit < size + 5 + length payload.now) }
+            → (journal_failed self.old ≡ None) × (size ≡ journal_length self.old)
+            × (limit < size + 5 + length payload.now) }
         ensures unchanged_failed { (faults : ℕ) → IsErrOf result (AppendFault.Failed faults) → self.new ≡ self.old }
         ensures unchanged_full { (size : ℕ) → IsErrOf result (AppendFault.Full size) → self.new ≡ self.old }
-        ensures fault { IsErrOf result AppendFault.DiskFault → Rose (D.faults (journal_disk self.old)) (D.faults (journal_disk self.new)) }
-        ensures fault_kept { IsErrOf result AppendFault.DiskFault → journal_failed self.new ≡ Some (D.faults (journal_disk self.new)) }
+        ensures fault { IsErrOf result AppendFault.DiskFault
+            → Rose (D.faults (journal_disk self.old)) (D.faults (journal_disk self.new)) }
+        ensures fault_kept { IsErrOf result AppendFault.DiskFault
+            → journal_failed self.new ≡ Some (D.faults (journal_disk self.new)) }
     {
         if let Some(faults) = self.failed {
             return Err(AppendFault::Failed { faults });
@@ -105,6 +115,13 @@ impl<D: Disk> Journal<D> {
         ensures { result ≡ journal_failed self.now }
     {
         self.failed
+    }
+
+    /// The disk's count of faults.
+    pub fn fault_count(&self) -> u64
+        ensures { result ≡ D.faults (journal_disk self.now) }
+    {
+        self.disk.fault_count()
     }
 
     /// How many bytes the journal has: one more than the place of the gate behind the last frame.

@@ -4,7 +4,8 @@ ghost use Rattle.device_journal.specs.Frames.{HasFrames, IsOffAt};
 
 /// An image stands for one list of payloads at most.
 pub fn frames_are_unique()
-    ensures { (image : List ℕ) (payloads others : List (List ℕ)) → HasFrames image payloads → HasFrames image others → payloads ≡ others }
+    ensures { (image : List ℕ) (payloads others : List (List ℕ)) → HasFrames image payloads → HasFrames image others
+        → payloads ≡ others }
 {}
 
 /// An image that is off at a place stands for no payloads.

@@ -1,9 +1,10 @@
 // Opening a journal: a sync, the image, and the header with a shut gate where there is no journal yet.
-ghost use Rattle.std.specs.Prelude.{◌≡◌, ◌≢◌, None, ◌≤◌, ◌⊎◌, List, ℕ, Some, length, vec_len, OnOk, OnErr, IfOk, IfErr, IsErrOf, option_map};
+ghost use Rattle.std.specs.Prelude.{◌≡◌, ◌≢◌, None, ◌≤◌, ◌⊎◌, List, ℕ, Some, length, vec_len, OnOk, OnErr, IfOk};
+ghost use Rattle.std.specs.Prelude.{IfErr, IsErrOf, option_map};
 ghost use Rattle.field_io.specs.Causes.{Rose, HasCause};
 ghost use Rattle.disk_model.specs.Disk.{Only, AddsNoImage, written};
 ghost use Rattle.device_journal.specs.Frames.{HasFrames, IsOffAt, Stands, end_of, start};
-ghost use Rattle.device_journal.specs.Moments.{LeavesOnly, LeavesFrom, LeavesAsRead, IsAsRead};
+ghost use Rattle.device_journal.specs.Moments.{LeavesOnly, LeavesFrom, LeavesAsRead, IsAsRead, synced_at};
 ghost use Rattle.device_journal.specs.Opened.{IsOpened, OfOpening};
 ghost use Rattle.device_journal.specs.Journal.{journal_disk, journal_length, journal_opened, journal_failed};
 ghost use Rattle.device_journal.specs.declared.fault.OpenFault.TheVariants.{DiskFault, BadJournal, NoMemory};
@@ -31,15 +32,9 @@ fn read_image<D: Disk>(alloc: Global, disk: &mut D) -> Result<Vec<u8>, OpenFault
     ensures none_off { (at : ℕ) → IsErrOf result (BadJournal at) → ⊥ }
     ensures faults { IfErr result OfOpening }
 {
-    let Ok(size) = disk.len() else {
-        return Err(OpenFault::DiskFault);
-    };
-    let Ok(mut bytes) = vec![in alloc; 0u8; size as usize] else {
-        return Err(OpenFault::NoMemory);
-    };
-    let Ok(count) = disk.read(0, &mut bytes) else {
-        return Err(OpenFault::DiskFault);
-    };
+    let size = disk.len()?;
+    let mut bytes = vec![in alloc; 0u8; size as usize]?;
+    let count = disk.read(0, &mut bytes)?;
     bytes.truncate(count);
     Ok(bytes)
 }
@@ -64,7 +59,8 @@ fn read_or_create<D: Disk>(alloc: Global, disk: &mut D) -> Result<(Items<Blob>, 
     ensures any_moment { LeavesOnly D.clock D.since disk.old disk.new (IsAsRead (D.content disk.old)) }
     ensures opened { IfOk result (λ r. IsOpened (D.content disk.old) (D.content disk.new) r.0 r.1) }
     ensures only { OnOk result (Only (D.content disk.new) (D.may disk.new)) }
-    ensures off { (at : ℕ) → IsErrOf result (BadJournal at) → (image : List ℕ) → D.content disk.old ≡ Some image → IsOffAt image at }
+    ensures off { (at : ℕ) → IsErrOf result (BadJournal at) → (image : List ℕ) → D.content disk.old ≡ Some image
+        → IsOffAt image at }
     ensures kept { OnOk result (D.faults disk.new ≡ D.faults disk.old) }
     ensures kept_err { IfErr result (λ fault. fault ≢ DiskFault → D.faults disk.new ≡ D.faults disk.old) }
     ensures later { D.faults disk.old ≤ D.faults disk.new }
@@ -97,7 +93,8 @@ fn find<D: Disk>(alloc: Global, disk: &mut D) -> Result<Found, OpenFault>
     ensures opened { IfOk result (λ f. IsOpened (D.content disk.old) (D.content disk.new) f.payloads f.gate) }
     ensures only { OnOk result (Only (D.content disk.new) (D.may disk.new)) }
     ensures room { IfOk result (λ f. vec_len f.room ≡ 524288) }
-    ensures off { (at : ℕ) → IsErrOf result (BadJournal at) → (image : List ℕ) → D.content disk.old ≡ Some image → IsOffAt image at }
+    ensures off { (at : ℕ) → IsErrOf result (BadJournal at) → (image : List ℕ) → D.content disk.old ≡ Some image
+        → IsOffAt image at }
     ensures kept { OnOk result (D.faults disk.new ≡ D.faults disk.old) }
     ensures kept_err { IfErr result (λ fault. fault ≢ DiskFault → D.faults disk.new ≡ D.faults disk.old) }
     ensures later { D.faults disk.old ≤ D.faults disk.new }
@@ -121,12 +118,15 @@ fn find<D: Disk>(alloc: Global, disk: &mut D) -> Result<Found, OpenFault>
 
 // Syncs the disk, and finds or makes a journal on it.
 fn prepare<D: Disk>(alloc: Global, disk: &mut D) -> Result<Found, OpenFault>
-    ensures any_moment { IfOk result (λ f. LeavesFrom D.clock D.since disk.old disk.new f.opened (IsAsRead (D.content disk.old))) }
+    ensures moment { IfOk result (λ f. f.opened ≡ synced_at D.clock disk.old) }
+    ensures any_moment { IfOk result
+        (λ f. LeavesFrom D.clock D.since disk.old disk.new f.opened (IsAsRead (D.content disk.old))) }
     ensures any_moment_err { OnErr result (LeavesAsRead D.clock D.may D.since (D.content disk.old) disk.old disk.new) }
     ensures opened { IfOk result (λ f. IsOpened (D.content disk.old) (D.content disk.new) f.payloads f.gate) }
     ensures only { OnOk result (Only (D.content disk.new) (D.may disk.new)) }
     ensures room { IfOk result (λ f. vec_len f.room ≡ 524288) }
-    ensures off { (at : ℕ) → IsErrOf result (BadJournal at) → (image : List ℕ) → D.content disk.old ≡ Some image → IsOffAt image at }
+    ensures off { (at : ℕ) → IsErrOf result (BadJournal at) → (image : List ℕ) → D.content disk.old ≡ Some image
+        → IsOffAt image at }
     ensures kept { OnOk result (D.faults disk.new ≡ D.faults disk.old) }
     ensures kept_err { IfErr result (λ fault. fault ≢ DiskFault → D.faults disk.new ≡ D.faults disk.old) }
     ensures later { D.faults disk.old ≤ D.faults disk.new }
@@ -150,12 +150,18 @@ pub fn open_journal<D: Disk>(
     ensures length { IfOk result (λ r. journal_length r.0 ≡ end_of r.1) }
     ensures sound { IfOk result (λ r. journal_failed r.0 ≡ None) }
 
+    // The moment of an opening is that right after its first sync.
+    ensures moment { IfOk result (λ r. journal_opened r.0 ≡ synced_at D.clock disk) }
+
     // Until the first sync a crash leaves what it might have left before; from then on what stands for the payloads.
-    ensures any_moment { IfOk result (λ r. LeavesFrom D.clock D.since disk (journal_disk r.0) (journal_opened r.0) (λ c. HasFrames c r.1)) }
-    ensures as_read { IfOk result (λ r. LeavesFrom D.clock D.since disk (journal_disk r.0) (journal_opened r.0) (IsAsRead (D.content disk))) }
+    ensures any_moment { IfOk result (λ r. LeavesFrom D.clock D.since disk (journal_disk r.0) (journal_opened r.0)
+        (λ c. HasFrames c r.1)) }
+    ensures as_read { IfOk result (λ r. LeavesFrom D.clock D.since disk (journal_disk r.0) (journal_opened r.0)
+        (IsAsRead (D.content disk))) }
     ensures any_moment_err { IfErr result (λ e. LeavesAsRead D.clock D.may D.since (D.content disk) disk e.0) }
 
-    ensures off { IfErr result (λ e. (at : ℕ) → e.1 ≡ BadJournal at → (image : List ℕ) → D.content disk ≡ Some image → IsOffAt image at) }
+    ensures off { IfErr result (λ e. (at : ℕ) → e.1 ≡ BadJournal at → (image : List ℕ) → D.content disk ≡ Some image
+        → IsOffAt image at) }
     ensures cause { IfErr result (λ e. e.1 ≡ DiskFault → Rose (D.faults disk) (D.faults e.0)) }
     ensures fault { IfErr result (λ e. OfOpening e.1) }
     ensures kept { IfOk result (λ r. D.faults (journal_disk r.0) ≡ D.faults disk) }

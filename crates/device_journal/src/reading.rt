@@ -1,5 +1,6 @@
 // Reading an image frame by frame.
-ghost use Rattle.std.specs.Prelude.{◌≡◌, ◌≢◌, ◌+◌, ◌<◌, ◌≤◌, ◌∷◌, ◌++◌, [], ℕ, length, take, IfOk, IfErr, OnOk, IsErrOf, MatchOption};
+ghost use Rattle.std.specs.Prelude.{◌≡◌, ◌≢◌, ◌+◌, ◌<◌, ◌≤◌, ◌∷◌, ◌++◌, [], ℕ, length, take, IfOk, IfErr, OnOk};
+ghost use Rattle.std.specs.Prelude.{IsErrOf, MatchOption};
 ghost use Rattle.device_journal.specs.Frames.{frame, open_gate, IsPayload, BeginsWithFrame, IsOffAt};
 ghost use Rattle.device_journal.specs.Opened.{OfOpening};
 ghost use Rattle.device_journal.specs.Sound.{EndsAt};
@@ -15,7 +16,8 @@ const HEADER: [u8; 8] = *b"ODKDEV01";
 // The payload of the frame whose open gate these bytes stand behind, where the frame is whole and a gate follows it.
 fn payload_behind(behind: &[u8]) -> Option<&[u8]>
     ensures { MatchOption result (BeginsWithFrame (open_gate ∷ behind.now) → ⊥)
-        (λ p. IsPayload p.now × (take (5 + length p.now) (open_gate ∷ behind.now) ≡ frame p.now) × (5 + length p.now ≤ length behind.now)) }
+        (λ p. IsPayload p.now × (take (5 + length p.now) (open_gate ∷ behind.now) ≡ frame p.now)
+        × (5 + length p.now ≤ length behind.now)) }
 {
     let [a, b, c, d, rest @ ..] = behind else {
         return None;
@@ -57,11 +59,6 @@ fn keep(alloc: Global, payloads: &mut Vec<Blob>, payload: &[u8]) -> Result<(), O
     ensures ok { OnOk result (payloads.new.items ≡ payloads.old.items ++ payload.now ∷ []) }
     ensures err { IfErr result (λ fault. fault ≡ NoMemory) }
 {
-    match Blob::from_bytes(alloc, payload) {
-        Ok(blob) => match payloads.push(blob) {
-            Ok(()) => Ok(()),
-            Err(_) => Err(OpenFault::NoMemory),
-        },
-        Err(_) => Err(OpenFault::NoMemory),
-    }
+    payloads.push(Blob::from_bytes(alloc, payload)?)?;
+    Ok(())
 }

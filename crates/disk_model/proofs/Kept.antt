@@ -5,7 +5,7 @@ use Rattle.std.proofs.lemmas.List.{take_all, take-append-le}
 use Rattle.std.proofs.lemmas.Bool.{cases_lt}
 use Rattle.disk_model.specs.Disk.{Torn, Only, AddsNoImage, AddsImages, Follows}
 use Rattle.disk_model.specs.Images.{held_after, held_after_all, LeftAfter, LeftAfterAll, IsImage, WasImage}
-use Rattle.disk_model.specs.Past.{reads_as_image, counts_now_image}
+use Rattle.disk_model.specs.Laws.{reads_as_image, counts_now_image}
 use Rattle.disk_model.specs.declared.calls.Call.{Call}
 use Rattle.disk_model.specs.declared.calls.Call.TheVariants.{Len, Read, Write, Sync}
 

@@ -1,5 +1,6 @@
 -- What the calls of a disk do to its bytes, and what a crash may leave of them.
-use Rattle.std.specs.Prelude.{◌≡◌, ◌⊎◌, ℕ, ◌+◌, ◌-◌, ◌^◌, ◌≤◌, min, max, List, ◌++◌, length, take, drop, Option, Some, None, IsSomeAnd}
+use Rattle.std.specs.Prelude.{◌≡◌, ◌⊎◌, ℕ, ◌+◌, ◌-◌, ◌^◌, ◌≤◌, min, max, List, ◌++◌, length, take, drop, Option, Some}
+use Rattle.std.specs.Prelude.{None, IsSomeAnd}
 
 -- the bytes after a write at a place: those before it, the written ones, and those behind them
 abbrev pub written : ℕ → List ℕ → List ℕ → List ℕ

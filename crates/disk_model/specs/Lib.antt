@@ -2,4 +2,4 @@ pub mod Disk
 pub mod Failing
 pub mod Images
 pub mod Memory
-pub mod Past
+pub mod Laws

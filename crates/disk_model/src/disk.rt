@@ -1,5 +1,6 @@
 // A disk: bytes that are read and written at places, a sync, and what a crash may leave.
-ghost use Rattle.std.specs.Prelude.{◌≡◌, ◌-◌, ◌+◌, ◌≤◌, ◌++◌, List, ℕ, Option, Some, length, take, drop, min, option_map, IfOk, OnOk, OnErr, IfSome};
+ghost use Rattle.std.specs.Prelude.{◌≡◌, ◌-◌, ◌+◌, ◌≤◌, ◌++◌, List, ℕ, Option, Some, length, take, drop, min};
+ghost use Rattle.std.specs.Prelude.{option_map, IfOk, OnOk, OnErr, IfSome};
 ghost use Rattle.std.specs.Option.{ForSome};
 ghost use Rattle.field_io.specs.Causes.{HasCause};
 ghost use Rattle.disk_model.specs.Disk.{written, Torn, ToldAlike, Only, counted, AddsNoImage, AddsImages};
@@ -46,8 +47,10 @@ pub trait Disk {
     /// The rest of `buf` stays.
     fn read(&mut self, at: u64, buf: &mut [u8]) -> Result<usize, Failed>
         ensures within { IfOk result (λ n. n ≤ length buf.old) }
-        ensures count { IfOk result (λ n. IfSome (content self.old) (λ bytes. n ≡ min (length buf.old) (length bytes - at))) }
-        ensures bytes { IfOk result (λ n. IfSome (content self.old) (λ bytes. buf.new ≡ take n (drop at bytes) ++ drop n buf.old)) }
+        ensures count { IfOk result (λ n. IfSome (content self.old)
+            (λ bytes. n ≡ min (length buf.old) (length bytes - at))) }
+        ensures bytes { IfOk result (λ n. IfSome (content self.old)
+            (λ bytes. buf.new ≡ take n (drop at bytes) ++ drop n buf.old)) }
         ensures content { content self.new ≡ content self.old }
         ensures images { AddsNoImage clock may since self.old self.new }
         ensures cause { HasCause (faults self.old) (faults self.new) result }
@@ -64,9 +67,10 @@ pub trait Disk {
         ensures calls { calls self.new ≡ counted (calls self.old) }
         ensures syncs { syncs self.new ≡ syncs self.old };
 
-    /// Once it has succeeded, a crash leaves what a read gives.
+    /// Once it has succeeded, a crash leaves what a read gives, and the disk is at its next moment.
     fn sync(&mut self) -> Result<(), Failed>
         ensures durable { OnOk result (Only (content self.new) (may self.new)) }
+        ensures next { OnOk result (clock self.new ≡ counted (clock self.old)) }
         ensures content { content self.new ≡ content self.old }
         ensures images { AddsNoImage clock may since self.old self.new }
         ensures cause { HasCause (faults self.old) (faults self.new) result }

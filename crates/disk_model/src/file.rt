@@ -1,79 +1,99 @@
 // A disk over a real file. It keeps no byte back: each call goes to the file at once.
 ghost use Rattle.std.specs.Prelude.{◌≡◌, ◌≤◌, length, None, IfOk, IsErr, MatchResult};
-ghost use Rattle.disk_model.specs.Past.{none_told};
+ghost use Rattle.disk_model.specs.Laws.{none_told};
 
 use crate::Disk;
 use crate::counts::Counts;
+use crate::opener::{Opened, Opener};
 use field_io::Failed;
-use std::fs::{Files, OpenFile, OpenOptions};
+use std::fs::OpenFile;
 use std::io;
 use std::io::{Read, Seek, SeekFrom, Write};
 
-/// A disk over a file of the system. It tells nothing of its bytes or its images: that a real file behaves as a disk
-/// is trusted. Where the file couldn't be opened or made, each call fails.
+/// A disk over a file of the system, which it opens at its first call. It tells nothing of its bytes or its images:
+/// that a real file behaves as a disk is trusted. Where the file can't be opened, each call fails.
 #[derive(Drop)]
-pub struct FileDisk<F> {
-    file: Option<F>,
-    // The file's folder, until a sync has made sure of the file's name in it.
-    folder: Option<F>,
+pub struct FileDisk<O, F> {
+    opener: O,
+    opened: Option<Opened<F>>,
+    // What the system said of the first call that failed.
+    trouble: Option<io::Error>,
     counts: Counts,
 }
 
-impl<F: Read + Write + Seek + OpenFile + Drop> FileDisk<F> {
-    /// Opens the file of this path, which stands in this folder, and makes it where there is none.
-    pub fn open<R: Files<File = F>>(rt: &R, folder: &str, path: &str) -> FileDisk<F> {
-        let file = OpenOptions::new()
-            .read(true)
-            .write(true)
-            .create(true)
-            .open(rt, path);
-        let folder = OpenOptions::new().read(true).open(rt, folder);
-        match (file, folder) {
-            (Ok(file), Ok(folder)) => FileDisk {
-                file: Some(file),
-                folder: Some(folder),
-                counts: Counts::new(),
-            },
-            _ => FileDisk {
-                file: None,
-                folder: None,
-                counts: Counts::new(),
-            },
+impl<O: Opener<File = F>, F: Drop> FileDisk<O, F> {
+    /// A disk over the file that this opener opens. Nothing is touched before the first call.
+    pub fn new(opener: O) -> FileDisk<O, F> {
+        FileDisk {
+            opener,
+            opened: None,
+            trouble: None,
+            counts: Counts::new(),
         }
+    }
+
+    /// What the system said of the first call that failed.
+    pub fn trouble(&self) -> Option<&io::Error> {
+        self.trouble.as_ref()
     }
 }
 
-// Syncs the file, and the first time its folder too.
-fn sync_both<F: OpenFile + Drop>(file: &Option<F>, folder: &mut Option<F>) -> io::Result<()> {
-    match file {
-        Some(file) => file.sync_all()?,
-        None => return Err(io::ErrorKind::NotFound.into()),
+// Opens the file before the first call. A file that couldn't be opened stays closed.
+fn open_once<O: Opener<File = F>, F: Drop>(
+    opener: &O,
+    opened: &mut Option<Opened<F>>,
+    trouble: &mut Option<io::Error>,
+) {
+    if opened.is_some() || trouble.is_some() {
+        return;
     }
-    if let Some(folder) = folder {
+    match opener.open() {
+        Ok(file) => *opened = Some(file),
+        Err(error) => *trouble = Some(error),
+    }
+}
+
+fn not_open<T>() -> io::Result<T>
+    ensures { IsErr result }
+{
+    Err(io::ErrorKind::NotFound.into())
+}
+
+// Syncs the file's bytes and what is needed to read them back, and the first time its folder too.
+fn sync_both<F: OpenFile + Drop>(opened: &mut Option<Opened<F>>) -> io::Result<()> {
+    let Some(opened) = opened else {
+        return not_open();
+    };
+    opened.file.sync_data()?;
+    if let Some(folder) = &opened.folder {
         folder.sync_all()?;
     }
-    *folder = None;
+    opened.folder = None;
     Ok(())
 }
 
-fn len<F: OpenFile>(file: &Option<F>) -> io::Result<u64> {
-    match file {
-        Some(file) => Ok(file.metadata()?.len()),
-        None => Err(io::ErrorKind::NotFound.into()),
+fn len<F: OpenFile>(opened: &Option<Opened<F>>) -> io::Result<u64> {
+    match opened {
+        Some(opened) => Ok(opened.file.metadata()?.len()),
+        None => not_open(),
     }
 }
 
 // Fills `buf` from a place on, as far as the file goes.
-fn read_at<F: Read + Seek>(file: &mut Option<F>, at: u64, buf: &mut [u8]) -> io::Result<usize>
+fn read_at<F: Read + Seek>(
+    opened: &mut Option<Opened<F>>,
+    at: u64,
+    buf: &mut [u8],
+) -> io::Result<usize>
     ensures { IfOk result (λ n. n ≤ length buf.old) }
 {
-    let Some(file) = file else {
-        return Err(io::ErrorKind::NotFound.into());
+    let Some(opened) = opened else {
+        return not_open();
     };
-    file.seek(SeekFrom::Start(at))?;
+    opened.file.seek(SeekFrom::Start(at))?;
     let mut filled = 0;
     while filled < buf.len() {
-        let count = file.read(&mut buf[filled..])?;
+        let count = opened.file.read(&mut buf[filled..])?;
         if count == 0 {
             break;
         }
@@ -82,24 +102,34 @@ fn read_at<F: Read + Seek>(file: &mut Option<F>, at: u64, buf: &mut [u8]) -> io:
     Ok(filled)
 }
 
-fn write_at<F: Write + Seek>(file: &mut Option<F>, at: u64, bytes: &[u8]) -> io::Result<()> {
-    let Some(file) = file else {
-        return Err(io::ErrorKind::NotFound.into());
+fn write_at<F: Write + Seek>(
+    opened: &mut Option<Opened<F>>,
+    at: u64,
+    bytes: &[u8],
+) -> io::Result<()> {
+    let Some(opened) = opened else {
+        return not_open();
     };
-    file.seek(SeekFrom::Start(at))?;
-    file.write_all(bytes)
+    opened.file.seek(SeekFrom::Start(at))?;
+    opened.file.write_all(bytes)
 }
 
-fn or_failed<T>(answer: io::Result<T>) -> Result<T, Failed>
+// Keeps what the system said of the first call that failed.
+fn or_failed<T>(answer: io::Result<T>, trouble: &mut Option<io::Error>) -> Result<T, Failed>
     ensures { MatchResult answer (λ x. result ≡ Ok x) (λ _. IsErr result) }
 {
     match answer {
         Ok(value) => Ok(value),
-        Err(_) => Err(Failed),
+        Err(error) => {
+            if trouble.is_none() {
+                *trouble = Some(error);
+            }
+            Err(Failed)
+        }
     }
 }
 
-impl<F: Read + Write + Seek + OpenFile + Drop> Disk for FileDisk<F> {
+impl<O: Opener<File = F>, F: Read + Write + Seek + OpenFile + Drop> Disk for FileDisk<O, F> {
     ghost content = { λ _. None };
 
     ghost may = { λ _ _. ⊥ };
@@ -124,25 +154,29 @@ impl<F: Read + Write + Seek + OpenFile + Drop> Disk for FileDisk<F> {
 
     fn len(&mut self) -> Result<u64, Failed> {
         self.counts.call();
-        let answer = or_failed(len(&self.file));
+        open_once(&self.opener, &mut self.opened, &mut self.trouble);
+        let answer = or_failed(len(&self.opened), &mut self.trouble);
         self.counts.answered(answer)
     }
 
     fn read(&mut self, at: u64, buf: &mut [u8]) -> Result<usize, Failed> {
         self.counts.call();
-        let answer = or_failed(read_at(&mut self.file, at, buf));
+        open_once(&self.opener, &mut self.opened, &mut self.trouble);
+        let answer = or_failed(read_at(&mut self.opened, at, buf), &mut self.trouble);
         self.counts.answered(answer)
     }
 
     fn write_at(&mut self, at: u64, bytes: &[u8]) -> Result<(), Failed> {
         self.counts.call();
-        let answer = or_failed(write_at(&mut self.file, at, bytes));
+        open_once(&self.opener, &mut self.opened, &mut self.trouble);
+        let answer = or_failed(write_at(&mut self.opened, at, bytes), &mut self.trouble);
         self.counts.answered(answer)
     }
 
     fn sync(&mut self) -> Result<(), Failed> {
         self.counts.sync();
-        let answer = or_failed(sync_both(&self.file, &mut self.folder));
+        open_once(&self.opener, &mut self.opened, &mut self.trouble);
+        let answer = or_failed(sync_both(&mut self.opened), &mut self.trouble);
         self.counts.answered(answer)
     }
 

@@ -7,11 +7,13 @@ mod disk;
 mod failing;
 mod file;
 mod memory;
+mod opener;
 #[cfg(test)]
 mod tests;
 
 pub use calls::Call;
 pub use disk::Disk;
-pub use failing::{FusedDisk, StumbleDisk};
+pub use failing::{FailingDisk, FusedDisk, Plan, StumbleDisk};
 pub use file::FileDisk;
 pub use memory::MemDisk;
+pub use opener::{LockedFile, Opened, Opener};

@@ -1,9 +1,10 @@
 // A disk in memory, which keeps the calls that were made: what a crash may leave at each moment follows from them.
-ghost use Rattle.std.specs.Prelude.{◌≡◌, ℕ, List, ◌-◌, ◌≤◌, ◌∷◌, [], ◌++◌, Some, length, min, take, drop, IfOk, OnOk, OnErr};
+ghost use Rattle.std.specs.Prelude.{◌≡◌, ℕ, List, ◌-◌, ◌≤◌, ◌∷◌, [], ◌++◌, Some, length, min, take, drop, IfOk, OnOk};
+ghost use Rattle.std.specs.Prelude.{OnErr};
 ghost use Rattle.field_io.specs.Causes.{HasCause};
 ghost use Rattle.disk_model.specs.Disk.{written, Only};
 ghost use Rattle.disk_model.specs.Images.{held_after, held_after_all, IsImage, WasImage};
-ghost use Rattle.disk_model.specs.Past.{reads_as_told, counts_now_image, only_now_image, earlier_image};
+ghost use Rattle.disk_model.specs.Laws.{reads_as_told, counts_now_image, only_now_image, earlier_image};
 ghost use Rattle.disk_model.specs.declared.calls.Call.TheVariants.{Len, Read, Write, Sync};
 
 use crate::counts::Counts;
@@ -12,7 +13,8 @@ use field_io::Failed;
 use field_text::{Blob, NoMemory};
 use std::alloc::Global;
 
-/// A disk in memory. A call of it fails only where memory for its growth was refused, and then changes its counts alone.
+/// A disk in memory. A call of it fails only where memory for its growth was refused, and then changes its counts
+/// alone.
 #[derive(Drop)]
 pub struct MemDisk {
     alloc: Global,

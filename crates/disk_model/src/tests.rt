@@ -1,6 +1,7 @@
 use crate::*;
 use field_io::Failed;
 use std::alloc::Global;
+use std::fs::File;
 use std::test::Fail;
 
 // Six calls: a look, two writes, a sync between them, a read.
@@ -69,18 +70,30 @@ fn a_stumbling_disk_goes_on(rt: HostRuntime) -> Result<(), Fail> {
     Ok(())
 }
 
+fn file_disk<'a>(rt: &HostRuntime, path: &'a str) -> FileDisk<LockedFile<'a>, File> {
+    FileDisk::new(LockedFile {
+        rt: *rt,
+        folder: ".",
+        path,
+    })
+}
+
 #[test]
-fn a_file_is_a_disk(rt: HostRuntime) -> Result<(), Fail> {
-    let mut disk = FileDisk::open(&rt, ".", "trial.disk");
+fn a_file_is_a_disk_for_one_at_a_time(rt: HostRuntime) -> Result<(), Fail> {
+    let mut disk = file_disk(&rt, "trial.disk");
     let mut want = [true; 6];
     assert_eq!(rt; play(&mut disk), want);
-    let mut again = FileDisk::open(&rt, ".", "trial.disk");
+    let mut second = file_disk(&rt, "trial.disk");
+    assert_eq!(rt; second.len(), Err(Failed));
+    assert!(rt; second.trouble().is_some());
+    drop(disk);
+    let mut again = file_disk(&rt, "trial.disk");
     let mut buf = [0; 9];
     assert_eq!(rt; again.len(), Ok(4));
     assert_eq!(rt; again.read(1, &mut buf), Ok(3));
     assert_eq!(rt; &buf[..3], b"lms".as_slice());
     want = [false; 6];
-    let mut missing = FileDisk::open(&rt, ".", "no/such/folder");
+    let mut missing = file_disk(&rt, "no/such/folder");
     assert_eq!(rt; play(&mut missing), want);
     assert_eq!(rt; missing.len(), Err(Failed));
     std::fs::remove_file(&rt, "trial.disk")?;

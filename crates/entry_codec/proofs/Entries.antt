@@ -1,6 +1,6 @@
 -- The format of each kind of entry, put together from its parts.
 use Rattle.std.specs.Prelude.{find}
-use Rattle.std.proofs.Common.{◌≡◌, ℕ, Bool, true, false, eqb, List, [], ◌∷◌, ◌++◌, Option, Some, None, Result, Ok, Err, refl, ap}
+use Rattle.std.proofs.Common.{◌≡◌, ℕ, Bool, true, false, eqb, List, [], ◌∷◌, ◌++◌, Option, Some, None, Result, Ok, Err, refl, ap, subst}
 use Rattle.field_io.specs.declared.dialer.Stage.{Stage}
 use Rattle.field_io.specs.declared.dialer.Stage.TheVariants as stage
 use Rattle.field_text.specs.declared.mode.Mode.{Mode}
@@ -237,81 +237,73 @@ base_format = IsFormat-tagged base_kind_byte base_kinds base_kind_of behind_base
 
 -- ---- commands
 
-is_auto_send : (c : Command) → kind_of c ≡ kind.AutoSend → (a : Bool) × (c ≡ (command.AutoSend a))
-is_auto_send (command.AutoSend a) e = (a, refl)
-is_auto_send _ e = absurd cc
+-- what a command of a kind carries, and the command that carries it
+abbrev carried : CommandKind → Type 0
+carried kind.AutoSend = Bool
+carried kind.UpdateMode = Mode
+carried kind.TakeLock = Round
+carried kind.Release = Lock
+carried kind.Load = List ℕ
+carried kind.Ask = List ℕ
+carried kind.Fetched = ℕ × (ℕ × Outcome)
+carried kind.RoundDone = Unit {0}
+carried kind.DropForm = List ℕ
+carried kind.Start = Base × How
+carried kind.Fill = List ℕ × List ℕ
+carried kind.SaveDraft = Unit {0}
+carried kind.Leave = Unit {0}
+carried kind.Finalize = Unit {0}
+carried kind.FinalizeAll = Unit {0}
+carried kind.DropInstance = ℕ
+carried kind.SendBegun = ℕ × ℕ
+carried kind.SendEnded = ℕ × Outcome
+carried kind.Tick = Unit {0}
 
-is_update_mode : (c : Command) → kind_of c ≡ kind.UpdateMode → (a : Mode) × (c ≡ (command.UpdateMode a))
-is_update_mode (command.UpdateMode a) e = (a, refl)
-is_update_mode _ e = absurd cc
+abbrev command_of : (k : CommandKind) → carried k → Command
+command_of kind.AutoSend a = command.AutoSend a
+command_of kind.UpdateMode a = command.UpdateMode a
+command_of kind.TakeLock a = command.TakeLock a
+command_of kind.Release a = command.Release a
+command_of kind.Load a = command.Load a
+command_of kind.Ask a = command.Ask a
+command_of kind.Fetched a = command.Fetched a.0 a.1.0 a.1.1
+command_of kind.RoundDone a = command.RoundDone
+command_of kind.DropForm a = command.DropForm a
+command_of kind.Start a = command.Start a.0 a.1
+command_of kind.Fill a = command.Fill a.0 a.1
+command_of kind.SaveDraft a = command.SaveDraft
+command_of kind.Leave a = command.Leave
+command_of kind.Finalize a = command.Finalize
+command_of kind.FinalizeAll a = command.FinalizeAll
+command_of kind.DropInstance a = command.DropInstance a
+command_of kind.SendBegun a = command.SendBegun a.0 a.1
+command_of kind.SendEnded a = command.SendEnded a.0 a.1
+command_of kind.Tick a = command.Tick
 
-is_take_lock : (c : Command) → kind_of c ≡ kind.TakeLock → (a : Round) × (c ≡ (command.TakeLock a))
-is_take_lock (command.TakeLock a) e = (a, refl)
-is_take_lock _ e = absurd cc
+carries : (c : Command) → (a : carried (kind_of c)) × (c ≡ command_of (kind_of c) a)
+carries (command.AutoSend a) = (a, refl)
+carries (command.UpdateMode a) = (a, refl)
+carries (command.TakeLock a) = (a, refl)
+carries (command.Release a) = (a, refl)
+carries (command.Load a) = (a, refl)
+carries (command.Ask a) = (a, refl)
+carries (command.Fetched a b c) = ((a, (b, c)), refl)
+carries command.RoundDone = (tt, refl)
+carries (command.DropForm a) = (a, refl)
+carries (command.Start a b) = ((a, b), refl)
+carries (command.Fill a b) = ((a, b), refl)
+carries command.SaveDraft = (tt, refl)
+carries command.Leave = (tt, refl)
+carries command.Finalize = (tt, refl)
+carries command.FinalizeAll = (tt, refl)
+carries (command.DropInstance a) = (a, refl)
+carries (command.SendBegun a b) = ((a, b), refl)
+carries (command.SendEnded a b) = ((a, b), refl)
+carries command.Tick = (tt, refl)
 
-is_release : (c : Command) → kind_of c ≡ kind.Release → (a : Lock) × (c ≡ (command.Release a))
-is_release (command.Release a) e = (a, refl)
-is_release _ e = absurd cc
-
-is_load : (c : Command) → kind_of c ≡ kind.Load → (a : List ℕ) × (c ≡ (command.Load a))
-is_load (command.Load a) e = (a, refl)
-is_load _ e = absurd cc
-
-is_ask : (c : Command) → kind_of c ≡ kind.Ask → (a : List ℕ) × (c ≡ (command.Ask a))
-is_ask (command.Ask a) e = (a, refl)
-is_ask _ e = absurd cc
-
-is_fetched : (c : Command) → kind_of c ≡ kind.Fetched → (a : ℕ) × (b : ℕ × Outcome) × (c ≡ command.Fetched a b.0 b.1)
-is_fetched (command.Fetched a b d) e = (a, (b, d), refl)
-is_fetched _ e = absurd cc
-
-is_round_done : (c : Command) → kind_of c ≡ kind.RoundDone → c ≡ command.RoundDone
-is_round_done command.RoundDone e = refl
-is_round_done _ e = absurd cc
-
-is_drop_form : (c : Command) → kind_of c ≡ kind.DropForm → (a : List ℕ) × (c ≡ (command.DropForm a))
-is_drop_form (command.DropForm a) e = (a, refl)
-is_drop_form _ e = absurd cc
-
-is_start : (c : Command) → kind_of c ≡ kind.Start → (a : Base) × (b : How) × (c ≡ (command.Start a b))
-is_start (command.Start a b) e = (a, b, refl)
-is_start _ e = absurd cc
-
-is_fill : (c : Command) → kind_of c ≡ kind.Fill → (a : List ℕ) × (b : List ℕ) × (c ≡ (command.Fill a b))
-is_fill (command.Fill a b) e = (a, b, refl)
-is_fill _ e = absurd cc
-
-is_save_draft : (c : Command) → kind_of c ≡ kind.SaveDraft → c ≡ command.SaveDraft
-is_save_draft command.SaveDraft e = refl
-is_save_draft _ e = absurd cc
-
-is_leave : (c : Command) → kind_of c ≡ kind.Leave → c ≡ command.Leave
-is_leave command.Leave e = refl
-is_leave _ e = absurd cc
-
-is_finalize : (c : Command) → kind_of c ≡ kind.Finalize → c ≡ command.Finalize
-is_finalize command.Finalize e = refl
-is_finalize _ e = absurd cc
-
-is_finalize_all : (c : Command) → kind_of c ≡ kind.FinalizeAll → c ≡ command.FinalizeAll
-is_finalize_all command.FinalizeAll e = refl
-is_finalize_all _ e = absurd cc
-
-is_drop_instance : (c : Command) → kind_of c ≡ kind.DropInstance → (a : ℕ) × (c ≡ (command.DropInstance a))
-is_drop_instance (command.DropInstance a) e = (a, refl)
-is_drop_instance _ e = absurd cc
-
-is_send_begun : (c : Command) → kind_of c ≡ kind.SendBegun → (a : ℕ) × (b : ℕ) × (c ≡ (command.SendBegun a b))
-is_send_begun (command.SendBegun a b) e = (a, b, refl)
-is_send_begun _ e = absurd cc
-
-is_send_ended : (c : Command) → kind_of c ≡ kind.SendEnded → (a : ℕ) × (b : Outcome) × (c ≡ (command.SendEnded a b))
-is_send_ended (command.SendEnded a b) e = (a, b, refl)
-is_send_ended _ e = absurd cc
-
-is_tick : (c : Command) → kind_of c ≡ kind.Tick → c ≡ command.Tick
-is_tick command.Tick e = refl
-is_tick _ e = absurd cc
+-- a command of this kind is one that carries such a value
+one_of : (k : CommandKind) (c : Command) → kind_of c ≡ k → (a : carried k) × (c ≡ command_of k a)
+one_of k c e = subst (λ (z : CommandKind). (a : carried z) × (c ≡ command_of z a)) e (carries c)
 
 abbrev pair_of : ℕ → Outcome × List ℕ → Result ((ℕ × Outcome) × List ℕ) ℕ
 pair_of at o = Ok ((at, o.0), o.1)
@@ -329,19 +321,19 @@ moment_and_outcome =
 
 start_format : IsFormat (λ c. kind_of c ≡ kind.Start) command_parts start_at
 unfolding start_at
-start_format = IsFormat-two base_parts base_at (λ b. byte (how_byte b) ∷ []) (choice_at how_byte hows) (λ a b. command.Start a b) (λ c. kind_of c ≡ kind.Start) command_parts base_format how_format (λ a b. refl) (λ a b. refl) is_start
+start_format = IsFormat-two base_parts base_at (λ b. byte (how_byte b) ∷ []) (choice_at how_byte hows) (λ a b. command.Start a b) (λ c. kind_of c ≡ kind.Start) command_parts base_format how_format (λ a b. refl) (λ a b. refl) (λ c e. let p = one_of kind.Start c e in (p.0.0, p.0.1, p.1))
 
 fill_format : IsFormat (λ c. kind_of c ≡ kind.Fill) command_parts fill_at
 unfolding fill_at
-fill_format = IsFormat-two (λ a. text a ∷ []) text_at (λ b. text b ∷ []) text_at (λ a b. command.Fill a b) (λ c. kind_of c ≡ kind.Fill) command_parts text_format text_format (λ a b. refl) (λ a b. refl) is_fill
+fill_format = IsFormat-two (λ a. text a ∷ []) text_at (λ b. text b ∷ []) text_at (λ a b. command.Fill a b) (λ c. kind_of c ≡ kind.Fill) command_parts text_format text_format (λ a b. refl) (λ a b. refl) (λ c e. let p = one_of kind.Fill c e in (p.0.0, p.0.1, p.1))
 
 send_begun_format : IsFormat (λ c. kind_of c ≡ kind.SendBegun) command_parts send_begun_at
 unfolding send_begun_at
-send_begun_format = IsFormat-two (λ a. number a ∷ []) number_at (λ b. number b ∷ []) number_at (λ a b. command.SendBegun a b) (λ c. kind_of c ≡ kind.SendBegun) command_parts number_format number_format (λ a b. refl) (λ a b. refl) is_send_begun
+send_begun_format = IsFormat-two (λ a. number a ∷ []) number_at (λ b. number b ∷ []) number_at (λ a b. command.SendBegun a b) (λ c. kind_of c ≡ kind.SendBegun) command_parts number_format number_format (λ a b. refl) (λ a b. refl) (λ c e. let p = one_of kind.SendBegun c e in (p.0.0, p.0.1, p.1))
 
 send_ended_format : IsFormat (λ c. kind_of c ≡ kind.SendEnded) command_parts send_ended_at
 unfolding send_ended_at
-send_ended_format = IsFormat-two (λ a. number a ∷ []) number_at outcome_parts outcome_at (λ a b. command.SendEnded a b) (λ c. kind_of c ≡ kind.SendEnded) command_parts number_format outcome_format (λ a b. refl) (λ a b. refl) is_send_ended
+send_ended_format = IsFormat-two (λ a. number a ∷ []) number_at outcome_parts outcome_at (λ a b. command.SendEnded a b) (λ c. kind_of c ≡ kind.SendEnded) command_parts number_format outcome_format (λ a b. refl) (λ a b. refl) (λ c e. let p = one_of kind.SendEnded c e in (p.0.0, p.0.1, p.1))
 
 abbrev fetched_by_two : List ℕ → Result (Command × List ℕ) ℕ
 fetched_by_two bytes = number_at bytes >>= λ job. moment_and_outcome_at job.1 >>= λ y. fetched_of job.0 y
@@ -366,29 +358,29 @@ fetched_format : IsFormat (λ c. kind_of c ≡ kind.Fetched) command_parts fetch
 fetched_format =
     IsFormat-same (λ c. kind_of c ≡ kind.Fetched) command_parts fetched_by_two fetched_at fetched_reads
     (IsFormat-two (λ n. number n ∷ []) number_at (λ (p : ℕ × Outcome). number p.0 ∷ outcome_parts p.1) moment_and_outcome_at (λ job p. command.Fetched job p.0 p.1) (λ c. kind_of c ≡ kind.Fetched) command_parts
-    number_format moment_and_outcome (λ job p. refl) (λ job p. refl) is_fetched)
+    number_format moment_and_outcome (λ job p. refl) (λ job p. refl) (λ c e. let p = one_of kind.Fetched c e in (p.0.0, p.0.1, p.1)))
 
 command_kinds : (k : CommandKind) → IsFormat (λ c. kind_of c ≡ k) command_parts (command_at k)
 unfolding command_at
-command_kinds kind.AutoSend = IsFormat-one (λ a. byte (bool_byte a) ∷ []) (choice_at bool_byte bools) (λ a. command.AutoSend a) (λ c. kind_of c ≡ kind.AutoSend) command_parts bool_format (λ a. refl) (λ a. refl) is_auto_send
-command_kinds kind.UpdateMode = IsFormat-one (λ a. byte (mode_byte a) ∷ []) (choice_at mode_byte modes) (λ a. command.UpdateMode a) (λ c. kind_of c ≡ kind.UpdateMode) command_parts mode_format (λ a. refl) (λ a. refl) is_update_mode
-command_kinds kind.TakeLock = IsFormat-one (λ a. byte (round_byte a) ∷ []) (choice_at round_byte rounds) (λ a. command.TakeLock a) (λ c. kind_of c ≡ kind.TakeLock) command_parts round_format (λ a. refl) (λ a. refl) is_take_lock
-command_kinds kind.Release = IsFormat-one (λ a. byte (lock_byte a) ∷ []) (choice_at lock_byte locks) (λ a. command.Release a) (λ c. kind_of c ≡ kind.Release) command_parts lock_format (λ a. refl) (λ a. refl) is_release
-command_kinds kind.Load = IsFormat-one (λ a. blob a ∷ []) blob_at (λ a. command.Load a) (λ c. kind_of c ≡ kind.Load) command_parts blob_format (λ a. refl) (λ a. refl) is_load
-command_kinds kind.Ask = IsFormat-one (λ a. text a ∷ []) text_at (λ a. command.Ask a) (λ c. kind_of c ≡ kind.Ask) command_parts text_format (λ a. refl) (λ a. refl) is_ask
+command_kinds kind.AutoSend = IsFormat-one (λ a. byte (bool_byte a) ∷ []) (choice_at bool_byte bools) (λ a. command.AutoSend a) (λ c. kind_of c ≡ kind.AutoSend) command_parts bool_format (λ a. refl) (λ a. refl) (one_of kind.AutoSend)
+command_kinds kind.UpdateMode = IsFormat-one (λ a. byte (mode_byte a) ∷ []) (choice_at mode_byte modes) (λ a. command.UpdateMode a) (λ c. kind_of c ≡ kind.UpdateMode) command_parts mode_format (λ a. refl) (λ a. refl) (one_of kind.UpdateMode)
+command_kinds kind.TakeLock = IsFormat-one (λ a. byte (round_byte a) ∷ []) (choice_at round_byte rounds) (λ a. command.TakeLock a) (λ c. kind_of c ≡ kind.TakeLock) command_parts round_format (λ a. refl) (λ a. refl) (one_of kind.TakeLock)
+command_kinds kind.Release = IsFormat-one (λ a. byte (lock_byte a) ∷ []) (choice_at lock_byte locks) (λ a. command.Release a) (λ c. kind_of c ≡ kind.Release) command_parts lock_format (λ a. refl) (λ a. refl) (one_of kind.Release)
+command_kinds kind.Load = IsFormat-one (λ a. blob a ∷ []) blob_at (λ a. command.Load a) (λ c. kind_of c ≡ kind.Load) command_parts blob_format (λ a. refl) (λ a. refl) (one_of kind.Load)
+command_kinds kind.Ask = IsFormat-one (λ a. text a ∷ []) text_at (λ a. command.Ask a) (λ c. kind_of c ≡ kind.Ask) command_parts text_format (λ a. refl) (λ a. refl) (one_of kind.Ask)
 command_kinds kind.Fetched = fetched_format
-command_kinds kind.RoundDone = IsFormat-nothing (λ c. kind_of c ≡ kind.RoundDone) command_parts command.RoundDone refl is_round_done refl
-command_kinds kind.DropForm = IsFormat-one (λ a. text a ∷ []) text_at (λ a. command.DropForm a) (λ c. kind_of c ≡ kind.DropForm) command_parts text_format (λ a. refl) (λ a. refl) is_drop_form
+command_kinds kind.RoundDone = IsFormat-nothing (λ c. kind_of c ≡ kind.RoundDone) command_parts command.RoundDone refl (λ c e. (one_of kind.RoundDone c e).1) refl
+command_kinds kind.DropForm = IsFormat-one (λ a. text a ∷ []) text_at (λ a. command.DropForm a) (λ c. kind_of c ≡ kind.DropForm) command_parts text_format (λ a. refl) (λ a. refl) (one_of kind.DropForm)
 command_kinds kind.Start = start_format
 command_kinds kind.Fill = fill_format
-command_kinds kind.SaveDraft = IsFormat-nothing (λ c. kind_of c ≡ kind.SaveDraft) command_parts command.SaveDraft refl is_save_draft refl
-command_kinds kind.Leave = IsFormat-nothing (λ c. kind_of c ≡ kind.Leave) command_parts command.Leave refl is_leave refl
-command_kinds kind.Finalize = IsFormat-nothing (λ c. kind_of c ≡ kind.Finalize) command_parts command.Finalize refl is_finalize refl
-command_kinds kind.FinalizeAll = IsFormat-nothing (λ c. kind_of c ≡ kind.FinalizeAll) command_parts command.FinalizeAll refl is_finalize_all refl
-command_kinds kind.DropInstance = IsFormat-one (λ a. number a ∷ []) number_at (λ a. command.DropInstance a) (λ c. kind_of c ≡ kind.DropInstance) command_parts number_format (λ a. refl) (λ a. refl) is_drop_instance
+command_kinds kind.SaveDraft = IsFormat-nothing (λ c. kind_of c ≡ kind.SaveDraft) command_parts command.SaveDraft refl (λ c e. (one_of kind.SaveDraft c e).1) refl
+command_kinds kind.Leave = IsFormat-nothing (λ c. kind_of c ≡ kind.Leave) command_parts command.Leave refl (λ c e. (one_of kind.Leave c e).1) refl
+command_kinds kind.Finalize = IsFormat-nothing (λ c. kind_of c ≡ kind.Finalize) command_parts command.Finalize refl (λ c e. (one_of kind.Finalize c e).1) refl
+command_kinds kind.FinalizeAll = IsFormat-nothing (λ c. kind_of c ≡ kind.FinalizeAll) command_parts command.FinalizeAll refl (λ c e. (one_of kind.FinalizeAll c e).1) refl
+command_kinds kind.DropInstance = IsFormat-one (λ a. number a ∷ []) number_at (λ a. command.DropInstance a) (λ c. kind_of c ≡ kind.DropInstance) command_parts number_format (λ a. refl) (λ a. refl) (one_of kind.DropInstance)
 command_kinds kind.SendBegun = send_begun_format
 command_kinds kind.SendEnded = send_ended_format
-command_kinds kind.Tick = IsFormat-nothing (λ c. kind_of c ≡ kind.Tick) command_parts command.Tick refl is_tick refl
+command_kinds kind.Tick = IsFormat-nothing (λ c. kind_of c ≡ kind.Tick) command_parts command.Tick refl (λ c e. (one_of kind.Tick c e).1) refl
 
 -- ---- entries
 

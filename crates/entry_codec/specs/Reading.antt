@@ -1,6 +1,7 @@
 -- Reading from left to right. Each reader gives a value and the bytes after it, or how many bytes are left where
 -- it stops: at the first part that can't stand there. Public contracts don't speak of it.
-use Rattle.std.specs.Prelude.{◌≡◌, ℕ, ◌+◌, Bool, true, false, List, [], ◌∷◌, length, take, drop, Option, Some, None, Result, Ok, Err, nat_lt, ◌==◌, if◌then◌else◌, find}
+use Rattle.std.specs.Prelude.{◌≡◌, ℕ, ◌+◌, Bool, true, false, List, [], ◌∷◌, length, take, drop, Option, Some, None}
+use Rattle.std.specs.Prelude.{Result, Ok, Err, nat_lt, ◌==◌, if◌then◌else◌, find}
 use Rattle.std.specs.Int.{w32, w64, from_le_bytes}
 use Rattle.std.specs.Str.{is_utf8}
 use Rattle.field_io.specs.declared.dialer.Stage.{Stage}
@@ -63,14 +64,17 @@ choice_at byte_of all [] = Err 0
 choice_at byte_of all (b ∷ rest) = chosen (find (λ choice. byte_of choice == b) all) rest
 
 abbrev pub number_at : List ℕ → Result (ℕ × List ℕ) ℕ
-number_at bytes = if nat_lt (length bytes) 8 then Err (length bytes) else Ok (from_le_bytes w64 (take 8 bytes), drop 8 bytes)
+number_at bytes =
+    if nat_lt (length bytes) 8 then Err (length bytes) else Ok (from_le_bytes w64 (take 8 bytes), drop 8 bytes)
 
 abbrev pub length_at : List ℕ → ℕ
 length_at bytes = from_le_bytes w32 (take 4 bytes)
 
 unfoldable pub blob_at : List ℕ → Result (List ℕ × List ℕ) ℕ
 blob_at bytes =
-    if nat_lt (length bytes) 4 then Err (length bytes) else if nat_lt (length (drop 4 bytes)) (length_at bytes) then Err (length bytes) else Ok (take (length_at bytes) (drop 4 bytes), drop (length_at bytes) (drop 4 bytes))
+    if nat_lt (length bytes) 4 then Err (length bytes)
+    else if nat_lt (length (drop 4 bytes)) (length_at bytes) then Err (length bytes)
+    else Ok (take (length_at bytes) (drop 4 bytes), drop (length_at bytes) (drop 4 bytes))
 
 unfoldable pub text_at : List ℕ → Result (List ℕ × List ℕ) ℕ
 text_at bytes = do
@@ -113,7 +117,12 @@ entry_kind_byte entries.Opened = 1
 entry_kind_byte (entries.Done kind) = kind_byte kind
 
 abbrev pub entry_kinds : List Kind
-entry_kinds = entries.Opened ∷ entries.Done kind.AutoSend ∷ entries.Done kind.UpdateMode ∷ entries.Done kind.TakeLock ∷ entries.Done kind.Release ∷ entries.Done kind.Load ∷ entries.Done kind.Ask ∷ entries.Done kind.Fetched ∷ entries.Done kind.RoundDone ∷ entries.Done kind.DropForm ∷ entries.Done kind.Start ∷ entries.Done kind.Fill ∷ entries.Done kind.SaveDraft ∷ entries.Done kind.Leave ∷ entries.Done kind.Finalize ∷ entries.Done kind.FinalizeAll ∷ entries.Done kind.DropInstance ∷ entries.Done kind.SendBegun ∷ entries.Done kind.SendEnded ∷ entries.Done kind.Tick ∷ []
+entry_kinds = entries.Opened ∷ entries.Done kind.AutoSend ∷ entries.Done kind.UpdateMode ∷ entries.Done kind.TakeLock
+    ∷ entries.Done kind.Release ∷ entries.Done kind.Load ∷ entries.Done kind.Ask ∷ entries.Done kind.Fetched
+    ∷ entries.Done kind.RoundDone ∷ entries.Done kind.DropForm ∷ entries.Done kind.Start ∷ entries.Done kind.Fill
+    ∷ entries.Done kind.SaveDraft ∷ entries.Done kind.Leave ∷ entries.Done kind.Finalize
+    ∷ entries.Done kind.FinalizeAll ∷ entries.Done kind.DropInstance ∷ entries.Done kind.SendBegun
+    ∷ entries.Done kind.SendEnded ∷ entries.Done kind.Tick ∷ []
 
 -- ---- what is made of parts
 

@@ -1,7 +1,9 @@
 ghost use Rattle.std.specs.Prelude.{◌≡◌, ◌≢◌, ◌↔◌, ◌≤◌, ◌++◌, ℕ, List, length, take, Err, IfOk, IsErr};
 ghost use Rattle.entry_form.specs.declared.entry.Entry.{Entry};
 ghost use Rattle.entry_codec.specs.Spelling.{Fits, IsShort, spelling, IsUnspelled, IsFirstFault};
-ghost use Rattle.entry_codec.specs.Reading.{Gives, number_at, blob_at, text_at, option_at, outcome_at, base_at, fetched_at, start_at, fill_at, send_begun_at, send_ended_at, command_at, opening_at, entry_at};
+ghost use Rattle.entry_codec.specs.Reading.{Gives, number_at, blob_at, text_at, option_at, outcome_at, base_at};
+ghost use Rattle.entry_codec.specs.Reading.{fetched_at, start_at, fill_at, send_begun_at, send_ended_at, command_at};
+ghost use Rattle.entry_codec.specs.Reading.{opening_at, entry_at};
 
 use crate::choice::choice_of;
 use crate::fault::{EntryRefused, ReadFault};
@@ -239,7 +241,8 @@ pub fn read_entry(alloc: Global, bytes: &[u8]) -> Result<(Entry, usize), EntryRe
     ensures short { IfOk result (λ x. IsShort x.0) }
 
     // What was spelled is read again, whatever follows it, unless memory runs out.
-    ensures again { (entry : Entry) (rest : List ℕ) → Fits entry → bytes.now ≡ spelling entry ++ rest → result ≢ Err EntryRefused.NoMemory → result ≡ Ok (entry, length (spelling entry)) }
+    ensures again { (entry : Entry) (rest : List ℕ) → Fits entry → bytes.now ≡ spelling entry ++ rest
+        → result ≢ Err EntryRefused.NoMemory → result ≡ Ok (entry, length (spelling entry)) }
 
     // Bytes are refused exactly where none of their fronts is a spelling, and at the first part that is at fault.
     ensures refused { result ≢ Err EntryRefused.NoMemory → (IsErr result ↔ IsUnspelled bytes.now) }

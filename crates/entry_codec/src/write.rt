@@ -1,7 +1,9 @@
 ghost use Rattle.std.specs.Prelude.{◌≡◌, ℕ, ◌<◌, ◌^◌, ◌++◌, length, slice_index, OnOk, OnErr};
 ghost use Rattle.std.specs.List.{AllByRecursion};
 ghost use Rattle.std.specs.Str.{IsUtf8};
-ghost use Rattle.entry_codec.specs.Spelling.{part_bytes, number, text as a_text, blob as a_blob, PartFits, IsShortPart, option_parts, outcome_parts, base_parts, command_parts, parts, bytes_of, spelling, IsShort, Fits};
+ghost use Rattle.entry_codec.specs.Spelling.{part_bytes, number, text as a_text, blob as a_blob, PartFits};
+ghost use Rattle.entry_codec.specs.Spelling.{IsShortPart, option_parts, outcome_parts, base_parts, command_parts};
+ghost use Rattle.entry_codec.specs.Spelling.{parts, bytes_of, spelling, IsShort, Fits};
 
 use crate::choice::Choice;
 use crate::kind::{BaseKind, CommandKind, Kind, Opener};

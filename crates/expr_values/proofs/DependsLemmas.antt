@@ -1,8 +1,9 @@
 -- The value of an expression depends only on the fields that it reads.
-use Rattle.std.specs.Prelude.{ℕ, ◌≡◌, Bool, true, false, ◌&&◌, List, [], ◌∷◌, ◌++◌, map, find, refl}
+use Rattle.std.specs.Prelude.{ℕ, ◌≡◌, Bool, true, List, [], ◌∷◌, map, refl}
 use Rattle.std.specs.List.{list_all, concat}
 use Rattle.std.proofs.Common.{ap, sym, ◌∙◌, subst}
-use Rattle.form_def.specs.declared.expr.Expr.{Expr, fold-Expr, fold-roll-Expr, ind-Expr, roll-Expr, map-Expr}
+use Rattle.std.proofs.lemmas.Bool.{and_parts}
+use Rattle.form_def.specs.declared.expr.Expr.{Expr, fold-roll-Expr, ind-Expr, roll-Expr, map-Expr}
 use Rattle.form_def.specs.declared.expr.Expr.TheOpen.{Expr-F}
 use Rattle.form_def.specs.Reads.{reads, reads_with_parts}
 use Rattle.expr_values.specs.declared.value.Value.{Value}
@@ -11,7 +12,7 @@ use Rattle.expr_values.specs.Operators.{negative, paired}
 use Rattle.expr_values.specs.Functions.{called}
 use Rattle.expr_values.specs.Rows.{Columns}
 use Rattle.expr_values.specs.Evaluation.{Surroundings, value_with_parts, value_in, looked_up}
-use Rattle.expr_values.proofs.Truths.{and-first, all-first, all-second}
+use Rattle.expr_values.proofs.Truths.{all-first, all-second}
 
 abbrev pub with_fields : (ℕ → List ℕ) → (List ℕ → List Columns) → ℕ → Surroundings
 with_fields f rows own = record { fields = f; rows = rows; own = own }
@@ -42,8 +43,8 @@ same_parts : (f g : ℕ → List ℕ) (rows : List ℕ → List Columns) (own : 
     ≡ value_with_parts (with_fields g rows own) (map-Expr Expr (Columns → Value) (value_in (with_fields g rows own)) (map-Expr E Expr at y))
 same_parts f g rows own ok same E at holds (Expr-F.Number n) h = refl
 same_parts f g rows own ok same E at holds (Expr-F.Words text) h = refl
-same_parts f g rows own ok same E at holds Expr-F.Own h = ap (λ t row. Words t) (same own (and-first (ok own) true h))
-same_parts f g rows own ok same E at holds (Expr-F.FieldAt number) h = ap (λ t row. Words t) (same number (and-first (ok number) true h))
+same_parts f g rows own ok same E at holds Expr-F.Own h = ap (λ t row. Words t) (same own ((and_parts (ok own) true h).0))
+same_parts f g rows own ok same E at holds (Expr-F.FieldAt number) h = ap (λ t row. Words t) (same number ((and_parts (ok number) true h).0))
 same_parts f g rows own ok same E at holds (Expr-F.Column column) h = refl
 same_parts f g rows own ok same E at holds (Expr-F.Item table filter column) h = ap (λ v row. Words (looked_up v column (rows table))) (holds filter h)
 same_parts f g rows own ok same E at holds (Expr-F.Call func args) h = ap (λ vs row. called func (map (λ v. v row) vs)) (same_args f g rows own ok E at holds args h)

@@ -5,4 +5,3 @@ pub mod PieceLemmas
 pub mod ValueLemmas
 pub mod LookUpLemmas
 pub mod DependsLemmas
-pub mod TestLemmas

@@ -1,7 +1,7 @@
 -- A text that is cut at its first space.
-use Rattle.std.specs.Prelude.{ℕ, ◌<◌, ◌≤◌, ◌≡◌, ◌+◌, ◌-◌, ◌==◌, Bool, true, false, not, cond, List, [], ◌∷◌, length, take, drop, nat_lt, Option, Some, None, position, refl}
-use Rattle.std.specs.List.{position_or_len, prefix_len}
-use Rattle.std.proofs.Common.{ap, sym, ◌∙◌, arith, ltb-true, get_or, length-drop}
+use Rattle.std.specs.Prelude.{ℕ, ◌≡◌, ◌+◌, ◌-◌, ◌==◌, false, List, [], ◌∷◌, length, take, drop, Some, None, position}
+use Rattle.std.specs.List.{position_or_len}
+use Rattle.std.proofs.Common.{arith, length-drop}
 use Rattle.std.proofs.lemmas.List.Elements.{All-from_get_or}
 use Rattle.std.proofs.lemmas.List.Splits.{slice_split_none, slice_split_first}
 use Rattle.std.proofs.lemmas.List.{take_all}

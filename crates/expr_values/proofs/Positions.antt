@@ -1,10 +1,9 @@
 -- The first place at which a test holds.
-use Rattle.std.specs.Prelude.{ℕ, ◌<◌, ◌≤◌, ◌≡◌, Bool, true, false, not, cond, List, length, nat_lt, Option, Some, None, position, refl}
+use Rattle.std.specs.Prelude.{ℕ, ◌<◌, ◌≤◌, ◌≡◌, Bool, true, false, not, cond, List, length, nat_lt, Some, None, position, refl}
 use Rattle.std.specs.List.{position_or_len}
 use Rattle.std.proofs.Common.{arith, ltb-true, get_or}
-use Rattle.std.proofs.lemmas.Bool.{ltb-false}
+use Rattle.std.proofs.lemmas.Bool.{ltb-false, not-true}
 use Rattle.std.proofs.lemmas.List.Sums.{prefix_len_passes}
-use Rattle.expr_values.proofs.Truths.{not-true}
 
 some_at : {X : Type 0} (p : X → Bool) (xs : List X) (place : ℕ) (b : Bool) → nat_lt (position_or_len p xs) (length xs) ≡ b
     → Some place ≡ cond b (Some (position_or_len p xs)) None → (position_or_len p xs < length xs) × (place ≡ position_or_len p xs)

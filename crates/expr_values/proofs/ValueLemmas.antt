@@ -1,14 +1,12 @@
 -- The value of each kind of expression.
-use Rattle.std.specs.Prelude.{ℕ, ℤ, List, [], ◌∷◌, ◌≡◌, map, refl}
+use Rattle.std.specs.Prelude.{ℕ, List, [], ◌∷◌, ◌≡◌, map, refl}
 use Rattle.std.proofs.Common.{ap, sym, ◌∙◌}
 use Rattle.form_def.specs.declared.expr.Func.{Func}
-use Rattle.form_def.specs.declared.expr.Op.{Op}
 use Rattle.form_def.specs.declared.expr.Expr.{Expr, fold-roll-Expr}
-use Rattle.form_def.specs.declared.expr.Expr.TheVariants.{Own, FieldAt, Column, Item, Call, Pair, Negative, rolls-Own, rolls-FieldAt, rolls-Column, rolls-Item, rolls-Call, rolls-Pair, rolls-Negative}
+use Rattle.form_def.specs.declared.expr.Expr.TheVariants.{Item, Call, rolls-Item, rolls-Call}
 use Rattle.form_def.specs.declared.expr.Expr.TheOpen.{Expr-F}
 use Rattle.expr_values.specs.declared.value.Value.{Value}
 use Rattle.expr_values.specs.declared.value.Value.TheVariants.{Words}
-use Rattle.expr_values.specs.Operators.{negative, paired}
 use Rattle.expr_values.specs.Functions.{called}
 use Rattle.expr_values.specs.Rows.{Columns}
 use Rattle.expr_values.specs.Evaluation.{Surroundings, value_with_parts, value_in, looked_up}

@@ -1,7 +1,8 @@
 -- The value of an expression, by its structure.
-use Rattle.std.specs.Prelude.{ℕ, Bool, true, false, cond, if◌then◌else◌, List, [], ◌∷◌, map, find, flat_map, Option, Some, None}
-use Rattle.std.specs.List.{slice_index_or}
+use Rattle.std.specs.Prelude.{ℕ, Bool, true, cond, if◌then◌else◌, List, [], ◌∷◌, map, find, flat_map, Option, Some, None}
+use Rattle.std.specs.List.{slice_index_or, list_any}
 use Rattle.std.specs.Option.{option_map_or}
+use Rattle.std.specs.Str.{bytes_eq}
 use Rattle.field_text.specs.Tables.{NamedTable}
 use Rattle.form_def.specs.declared.expr.Expr.{Expr, fold-Expr}
 use Rattle.form_def.specs.declared.expr.Expr.TheOpen.{Expr-F}
@@ -12,7 +13,7 @@ use Rattle.expr_values.specs.declared.value.Value.TheVariants.{Words}
 use Rattle.expr_values.specs.Values.{whole, truth_of}
 use Rattle.expr_values.specs.Operators.{negative, paired}
 use Rattle.expr_values.specs.Functions.{called}
-use Rattle.expr_values.specs.Rows.{Columns, no_columns, rows_named}
+use Rattle.expr_values.specs.Rows.{Columns, rows_named}
 
 -- what an expression is read against: what each field reads as, the rows of each table, and the number of its own field
 pub record Surroundings : Type 0 where
@@ -52,10 +53,15 @@ offer s filter column row = if row_holds s filter row then row column ∷ [] els
 abbrev pub offers : Surroundings → Option Expr → List ℕ → List Columns → List (List ℕ)
 offers s filter column rows = flat_map (offer s filter column) rows
 
+-- whether a value is among those offered
+abbrev pub is_offered : List (List ℕ) → List ℕ → Bool
+is_offered values choice = list_any (λ value. bytes_eq value choice) values
+
 -- the text of a field as expressions read it: none where the field isn't shown
 abbrev pub text_read : List (List ℕ) → List Bool → ℕ → List ℕ
 text_read texts marks number = cond (is_marked marks number) (slice_index_or texts number []) []
 
 -- an expression of the field `own` of a form with these texts, of which the marked ones are shown
 abbrev pub surroundings_of : FormDef → List NamedTable → List (List ℕ) → List Bool → ℕ → Surroundings
-surroundings_of form tables texts marks own = record { fields = text_read texts marks; rows = rows_named form tables; own = own }
+surroundings_of form tables texts marks own = record
+    { fields = text_read texts marks; rows = rows_named form tables; own = own }

@@ -1,5 +1,5 @@
 -- Functions of values (XPath 1.0, section 4, and ODK XForms, in a profile).
-use Rattle.std.specs.Prelude.{ℕ, pos, Bool, true, false, not, ◌==◌, nat_le, if◌then◌else◌, List, [], ◌∷◌, length, chars, count_by, ◌&&◌}
+use Rattle.std.specs.Prelude.{ℕ, pos, Bool, true, false, not, ◌==◌, nat_le, if◌then◌else◌, List, [], length, chars, count_by, ◌&&◌}
 use Rattle.std.specs.List.{list_any, slice_index_or, slice_split, flat_map}
 use Rattle.std.specs.Str.{bytes_eq}
 use Rattle.form_def.specs.declared.expr.Func.{Func}
@@ -42,4 +42,5 @@ called CountSelected args = whole (pos (piece_count (text_of (argument args 0)))
 called StringLength args = whole (pos (length (chars (text_of (argument args 0)))))
 called Concat args = Words (joined (flat_map text_of args))
 called Choose args = if truth_of (argument args 0) then argument args 1 else argument args 2
-called Coalesce args = Words (if is_some_text (text_of (argument args 0)) then text_of (argument args 0) else text_of (argument args 1))
+called Coalesce args = Words (if is_some_text (text_of (argument args 0)) then text_of (argument args 0) else text_of
+    (argument args 1))

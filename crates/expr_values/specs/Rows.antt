@@ -1,10 +1,9 @@
 -- Rows of tables, each as what stands in its columns.
-use Rattle.std.specs.Prelude.{ℕ, List, [], ◌∷◌, map, find}
+use Rattle.std.specs.Prelude.{ℕ, List, [], map, find}
 use Rattle.std.specs.Option.{option_map_or}
 use Rattle.std.specs.Str.{bytes_eq}
 use Rattle.field_text.specs.Tables.{NamedTable, table_rows, text_in}
 use Rattle.form_def.specs.declared.field.Cell.{Cell}
-use Rattle.form_def.specs.declared.field.InnerTable.{InnerTable}
 use Rattle.form_def.specs.declared.field.OuterTable.{OuterTable}
 use Rattle.form_def.specs.declared.form.FormDef.{FormDef}
 
@@ -22,8 +21,10 @@ columns_of cells column = option_map_or (λ cell. cell.value) (find (λ cell. by
 
 -- the rows of the outer table of a name
 abbrev pub outer_rows : List OuterTable → List NamedTable → List ℕ → List Columns
-outer_rows outer tables name = option_map_or (λ table. map text_in (table_rows tables table.list)) (find (λ table. bytes_eq table.name name) outer) []
+outer_rows outer tables name = option_map_or (λ table. map text_in (table_rows tables table.list))
+    (find (λ table. bytes_eq table.name name) outer) []
 
 -- the rows of the first inner table of a name, else of the first outer one, else none
 abbrev pub rows_named : FormDef → List NamedTable → List ℕ → List Columns
-rows_named form tables name = option_map_or (λ table. map columns_of table.rows) (find (λ table. bytes_eq table.name name) form.inner) (outer_rows form.outer tables name)
+rows_named form tables name = option_map_or (λ table. map columns_of table.rows)
+    (find (λ table. bytes_eq table.name name) form.inner) (outer_rows form.outer tables name)

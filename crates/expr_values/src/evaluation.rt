@@ -1,22 +1,21 @@
 ghost use Rattle.std.specs.Prelude.{◌≡◌, IfOk, map, ℕ, List};
 ghost use Rattle.std.specs.List.{list_any};
 ghost use Rattle.field_text.specs.Tables.{NamedTable, table_rows, text_in};
-ghost use Rattle.form_def.specs.Order.{is_marked as marked};
 ghost use Rattle.expr_values.specs.Rows.{Columns, no_columns, columns_of, outer_rows, rows_named};
 ghost use Rattle.expr_values.specs.Values.{truth_of};
-ghost use Rattle.expr_values.specs.Seen.{columns_seen};
-ghost use Rattle.expr_values.specs.Evaluation.{looked_up, value_in, text_read, surroundings_of};
+ghost use Rattle.expr_values.specs.Seen.{columns_seen, surroundings_seen};
+ghost use Rattle.expr_values.specs.Evaluation.{looked_up, value_in, text_read};
 
 use crate::functions::call;
 use crate::operators::{negative, pair};
 use crate::rows::{Row, cell, inner_table, outer_table};
 use crate::value::Value;
 use field_text::{Items, NoMemory, Tables, Text};
-use form_def::{Cell, Expr, FormDef};
+use form_def::{Cell, Expr, FormDef, is_marked};
 use std::alloc::Global;
 
-/// What the expressions of a field read: the form, the text of each field and whether it is shown, the tables of the device, and
-/// the field's own number.
+/// What the expressions of a field read: the form, the text of each field and whether it is shown, the tables of the
+/// device, and the field's own number.
 #[derive(Drop)]
 pub struct Scope<'a, T> {
     pub form: &'a FormDef,
@@ -24,12 +23,6 @@ pub struct Scope<'a, T> {
     pub marks: &'a [bool],
     pub tables: &'a T,
     pub own: u64,
-}
-
-fn is_marked(marks: &[bool], number: u64) -> bool
-    ensures { result ≡ marked marks.now number }
-{
-    marks.get(number as usize).copied().unwrap_or(false)
 }
 
 /// The text of a field as expressions read it: none where the field isn't shown.
@@ -58,7 +51,9 @@ pub fn evaluate<T: Tables>(
     row: &Row<'_>,
     expr: &Expr,
 ) -> Result<Value, NoMemory>
-    ensures { IfOk result (λ value. value ≡ value_in (surroundings_of scope.now.form.now (T.tables scope.now.tables.now) scope.now.texts.now scope.now.marks.now scope.now.own) expr.now (columns_seen (T.tables scope.now.tables.now) row.now)) }
+    ensures { IfOk result (λ value. value
+        ≡ value_in (surroundings_seen (T.tables scope.now.tables.now) scope.now) expr.now
+        (columns_seen (T.tables scope.now.tables.now) row.now)) }
 {
     match expr {
         Expr::Number(number) => Ok(Value::whole(*number)),
@@ -96,7 +91,9 @@ fn evaluate_all<T: Tables>(
     row: &Row<'_>,
     exprs: &[Expr],
 ) -> Result<Vec<Value>, NoMemory>
-    ensures { IfOk result (λ values. values.items ≡ map (λ expr. value_in (surroundings_of scope.now.form.now (T.tables scope.now.tables.now) scope.now.texts.now scope.now.marks.now scope.now.own) expr (columns_seen (T.tables scope.now.tables.now) row.now)) exprs.now) }
+    ensures { IfOk result (λ values. values.items
+        ≡ map (λ expr. value_in (surroundings_seen (T.tables scope.now.tables.now) scope.now) expr
+        (columns_seen (T.tables scope.now.tables.now) row.now)) exprs.now) }
 {
     let mut values = Vec::new(alloc);
     for expr in exprs {
@@ -113,7 +110,9 @@ pub fn holds<T: Tables>(
     row: &Row<'_>,
     expr: &Expr,
 ) -> Result<bool, NoMemory>
-    ensures { IfOk result (λ holds. holds ≡ truth_of (value_in (surroundings_of scope.now.form.now (T.tables scope.now.tables.now) scope.now.texts.now scope.now.marks.now scope.now.own) expr.now (columns_seen (T.tables scope.now.tables.now) row.now))) }
+    ensures { IfOk result (λ holds. holds
+        ≡ truth_of (value_in (surroundings_seen (T.tables scope.now.tables.now) scope.now) expr.now
+        (columns_seen (T.tables scope.now.tables.now) row.now))) }
 {
     let value = evaluate(alloc, scope, row, expr)?;
     Ok(value.truth())
@@ -128,7 +127,9 @@ fn look_up<T: Tables>(
     filter: &Expr,
     column: &Text,
 ) -> Result<Text, NoMemory>
-    ensures { IfOk result (λ text. text ≡ looked_up (value_in (surroundings_of scope.now.form.now (T.tables scope.now.tables.now) scope.now.texts.now scope.now.marks.now scope.now.own) filter.now) column.now (rows_named scope.now.form.now (T.tables scope.now.tables.now) table.now)) }
+    ensures { IfOk result (λ text. text ≡ looked_up
+        (value_in (surroundings_seen (T.tables scope.now.tables.now) scope.now) filter.now) column.now
+        (rows_named scope.now.form.now (T.tables scope.now.tables.now) table.now)) }
 {
     match inner_table(scope.form.inner.as_slice(), table) {
         Some(inner) => look_up_inner(alloc, scope, inner.rows.as_slice(), filter, column),
@@ -144,7 +145,9 @@ fn look_up_named<T: Tables>(
     filter: &Expr,
     column: &Text,
 ) -> Result<Text, NoMemory>
-    ensures { IfOk result (λ text. text ≡ looked_up (value_in (surroundings_of scope.now.form.now (T.tables scope.now.tables.now) scope.now.texts.now scope.now.marks.now scope.now.own) filter.now) column.now (outer_rows scope.now.form.now.outer (T.tables scope.now.tables.now) table.now)) }
+    ensures { IfOk result (λ text. text ≡ looked_up
+        (value_in (surroundings_seen (T.tables scope.now.tables.now) scope.now) filter.now) column.now
+        (outer_rows scope.now.form.now.outer (T.tables scope.now.tables.now) table.now)) }
 {
     match outer_table(scope.form.outer.as_slice(), table) {
         Some(outer) => look_up_outer(alloc, scope, &outer.list, filter, column),
@@ -160,7 +163,9 @@ fn look_up_inner<T: Tables>(
     filter: &Expr,
     column: &Text,
 ) -> Result<Text, NoMemory>
-    ensures { IfOk result (λ text. text ≡ looked_up (value_in (surroundings_of scope.now.form.now (T.tables scope.now.tables.now) scope.now.texts.now scope.now.marks.now scope.now.own) filter.now) column.now (map columns_of rows.now)) }
+    ensures { IfOk result (λ text. text ≡ looked_up
+        (value_in (surroundings_seen (T.tables scope.now.tables.now) scope.now) filter.now) column.now
+        (map columns_of rows.now)) }
 {
     let mut rest = rows;
     while let Some((first, others)) = rest.split_first() {
@@ -181,7 +186,9 @@ fn look_up_outer<T: Tables>(
     filter: &Expr,
     column: &Text,
 ) -> Result<Text, NoMemory>
-    ensures { IfOk result (λ text. text ≡ looked_up (value_in (surroundings_of scope.now.form.now (T.tables scope.now.tables.now) scope.now.texts.now scope.now.marks.now scope.now.own) filter.now) column.now (map text_in (table_rows (T.tables scope.now.tables.now) list.now))) }
+    ensures { IfOk result (λ text. text ≡ looked_up
+        (value_in (surroundings_seen (T.tables scope.now.tables.now) scope.now) filter.now) column.now
+        (map text_in (table_rows (T.tables scope.now.tables.now) list.now))) }
 {
     for number in 0..scope.tables.rows(list) {
         let row = Row::Outer(list, number);

@@ -110,7 +110,9 @@ fn joined_text(alloc: Global, args: &[Value]) -> Result<Text, NoMemory>
 }
 
 fn coalesce(alloc: Global, args: &[Value]) -> Result<Text, NoMemory>
-    ensures { IfOk result (λ text. text ≡ (if is_some_text (text_of (argument args.now 0)) then text_of (argument args.now 0) else text_of (argument args.now 1))) }
+    ensures { IfOk result (λ text. text ≡
+        (if is_some_text (text_of (argument args.now 0)) then text_of (argument args.now 0) else text_of
+        (argument args.now 1))) }
 {
     let first = text_at(alloc, args, 0)?;
     if first.bytes().is_empty() {

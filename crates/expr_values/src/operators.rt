@@ -89,7 +89,7 @@ fn equal_numbers(left: &Value, right: &Value) -> bool
     }
 }
 
-/// Whether the values are equal: as truths where either is a truth, else as numbers where either is a number, else as texts.
+/// Whether the values are equal: as truths where either is one, else as numbers where either is one, else as texts.
 fn equal(left: &Value, right: &Value) -> bool
     ensures { result ≡ equal_to left.now right.now }
 {

@@ -9,7 +9,8 @@ fn first_space(text: &[u8]) -> Option<usize>
 
 /// What stands before the first space, and behind it.
 pub fn split_piece(text: &[u8]) -> Option<(&[u8], &[u8])>
-    ensures parts { MatchOption result (cut_at_spaces text.now ≡ text.now ∷ []) (λ x. cut_at_spaces text.now ≡ x.0.now ∷ cut_at_spaces x.1.now) }
+    ensures parts { MatchOption result (cut_at_spaces text.now ≡ text.now ∷ []) (λ x. cut_at_spaces text.now
+        ≡ x.0.now ∷ cut_at_spaces x.1.now) }
     ensures shorter { IfSome result (λ x. length x.0.now + length x.1.now < length text.now) }
 {
     match first_space(text) {

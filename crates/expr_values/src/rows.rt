@@ -54,6 +54,36 @@ pub fn cell<T: Tables>(
     }
 }
 
+/// Whether the text in a column of a row in the form is this one.
+fn is_in_inner_cell(cells: &[Cell], column: &Text, text: &[u8]) -> bool
+    ensures { result ≡ bytes_eq (columns_of cells.now column.now) text.now }
+{
+    match find_cell(cells, column) {
+        Some(cell) => cell.value.bytes() == text,
+        None => text.is_empty(),
+    }
+}
+
+/// Whether the text in a column of a row is this one.
+pub fn is_in_cell<T: Tables>(
+    alloc: Global,
+    tables: &T,
+    row: &Row<'_>,
+    column: &Text,
+    text: &[u8],
+) -> Result<bool, NoMemory>
+    ensures { IfOk result (λ is. is ≡ bytes_eq (columns_seen (T.tables tables.now) row.now column.now) text.now) }
+{
+    match row {
+        Row::Absent => Ok(text.is_empty()),
+        Row::Inner(cells) => Ok(is_in_inner_cell(cells, column, text)),
+        Row::Outer(list, number) => {
+            let cell = tables.cell(alloc, list, *number, column)?;
+            Ok(cell.bytes() == text)
+        }
+    }
+}
+
 /// The first table of a name in the form.
 pub fn inner_table<'a>(tables: &'a [InnerTable], name: &Text) -> Option<&'a InnerTable>
     ensures { option_copied result ≡ find (λ table. bytes_eq table.name name.now) tables.now }

@@ -1,5 +1,10 @@
-ghost use Rattle.std.specs.Prelude.{◌≡◌, ◌≢◌, ◌↔◌, List, ℕ, ◌++◌, IfOk, IsTrue, MatchOption};
-ghost use Rattle.field_ids.specs.Hashes.{IsHash, IsHashOf, hash_of, hash_prefix};
+ghost use Rattle.std.specs.Prelude.{◌≡◌, IfOk};
+ghost use Rattle.std.specs.Char.{is_ascii_hexdigit};
+ghost use Rattle.std.specs.List.{list_all};
+ghost use Rattle.std.specs.Option.{option_copied};
+ghost use Rattle.hex.specs.Hex.{encode_lower};
+ghost use Rattle.md5.specs.Md5.{md5};
+ghost use Rattle.field_ids.specs.Hashes.{are_digits, digits_in, hash_of, is_hash, is_hash_of, same_digits, same_hash};
 
 use field_text::{NoMemory, Text};
 use md5::{Digest, Md5};
@@ -17,31 +22,59 @@ pub fn hash_text(alloc: Global, bytes: &[u8]) -> Result<Text, NoMemory>
 
 // What stands behind `md5:` in a text.
 fn digits_of(text: &Text) -> Option<&[u8]>
-    ensures { MatchOption result ((digits : List ℕ) → text.now ≢ hash_prefix ++ digits) (λ digits. text.now ≡ hash_prefix ++ digits.now) }
+    ensures { option_copied result ≡ digits_in text.now }
 {
     text.bytes().strip_prefix(b"md5:".as_slice())
 }
 
-/// Whether a text is the hash of these bytes, its digits in either case.
-pub fn hash_matches(hash: &Text, bytes: &[u8]) -> bool
-    ensures { IsTrue result ↔ IsHashOf hash.now bytes.now }
+fn all_digits(bytes: &[u8]) -> bool
+    ensures { result ≡ list_all is_ascii_hexdigit bytes.now }
 {
-    let Some(digits) = digits_of(hash) else {
-        return false;
-    };
-    let mut digest = [0; 16];
-    match hex::decode_to_slice(digits, digest.as_mut_slice()) {
-        Ok(()) => digest == Md5::digest(bytes),
-        Err(_) => false,
-    }
+    bytes.iter().all(|byte| byte.is_ascii_hexdigit())
+}
+
+fn are_digits(bytes: &[u8]) -> bool
+    ensures { result ≡ are_digits bytes.now }
+{
+    bytes.len() == 32 && all_digits(bytes)
 }
 
 /// Whether a text is `md5:` and 32 hexadecimal digits of either case.
 pub fn is_hash(text: &Text) -> bool
-    ensures { IsTrue result ↔ IsHash text.now }
+    ensures { result ≡ is_hash text.now }
 {
     match digits_of(text) {
-        Some(digits) => digits.len() == 32 && digits.iter().all(|digit| digit.is_ascii_hexdigit()),
+        Some(digits) => are_digits(digits),
+        None => false,
+    }
+}
+
+/// Whether both texts are `md5:` and then the same digits, each of either case.
+pub fn same_hash(a: &Text, b: &Text) -> bool
+    ensures { result ≡ same_hash a.now b.now }
+{
+    match (digits_of(a), digits_of(b)) {
+        (Some(a), Some(b)) => a.eq_ignore_ascii_case(b),
+        _ => false,
+    }
+}
+
+fn have_digest(digits: &[u8], bytes: &[u8]) -> bool
+    ensures { result ≡ same_digits (Some digits.now) (Some (encode_lower (md5 bytes.now))) }
+{
+    let mut lower = [0; 32];
+    match hex::encode_to_slice(Md5::digest(bytes), lower.as_mut_slice()) {
+        Ok(()) => digits.eq_ignore_ascii_case(lower.as_slice()),
+        Err(_) => unreachable!(),
+    }
+}
+
+/// Whether a text is the hash of these bytes, its digits in either case.
+pub fn hash_matches(hash: &Text, bytes: &[u8]) -> bool
+    ensures { result ≡ is_hash_of hash.now bytes.now }
+{
+    match digits_of(hash) {
+        Some(digits) => have_digest(digits, bytes),
         None => false,
     }
 }

@@ -6,5 +6,5 @@ mod ids;
 #[cfg(test)]
 mod tests;
 
-pub use hashes::{hash_matches, hash_text, is_hash};
+pub use hashes::{hash_matches, hash_text, is_hash, same_hash};
 pub use ids::{Draws, Id, draw};

@@ -48,6 +48,7 @@ fn hashes_match_their_bytes(rt: HostRuntime) -> Result<(), Fail> {
 #[test]
 fn hashes_are_told_from_other_texts(rt: HostRuntime) -> Result<(), Fail> {
     // The text, whether it is a hash, and whether it is that of no bytes.
+    let lower = Text::from_bytes(rt.alloc(), b"md5:d41d8cd98f00b204e9800998ecf8427e")?;
     let cases: [(&str, bool, bool); 9] = [
         ("md5:D41D8CD98F00B204E9800998ECF8427E", true, true),
         ("md5:D41d8cd98f00b204e9800998ecf8427E", true, true),
@@ -63,6 +64,7 @@ fn hashes_are_told_from_other_texts(rt: HostRuntime) -> Result<(), Fail> {
         let text = Text::from_bytes(rt.alloc(), text.as_bytes())?;
         assert_eq!(rt; is_hash(&text), hash);
         assert_eq!(rt; hash_matches(&text, b""), of_nothing);
+        assert_eq!(rt; same_hash(&lower, &text), of_nothing);
     }
     Ok(())
 }

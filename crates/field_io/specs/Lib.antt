@@ -1,3 +1,4 @@
 pub mod Causes
 pub mod Clock
+pub mod Exchanges
 pub mod Moves

@@ -1,4 +1,4 @@
-ghost use Rattle.std.specs.Prelude.{◌≡◌};
+ghost use Rattle.std.specs.Prelude.{◌≡◌, ℕ, Option, None, Some, IfSome};
 ghost use Rattle.field_io.specs.Clock.{IsMoment};
 
 use std::rt;
@@ -9,8 +9,13 @@ const MOMENT_LIMIT: u64 = 253_402_300_800;
 
 /// Moments, in seconds since 1970.
 pub trait Clock {
+    /// The moment that each call answers, where the clock tells it.
+    ghost told: { Self → Option ℕ };
+
     fn now(&mut self) -> u64
-        ensures { IsMoment result };
+        ensures moment { IsMoment result }
+        ensures told { IfSome (told self.old) (λ moment. result ≡ moment) }
+        ensures kept { told self.new ≡ told self.old };
 }
 
 /// A clock that stands.
@@ -23,12 +28,15 @@ pub struct FixedClock {
 impl FixedClock {
     pub fn make(moment: u64) -> FixedClock
         requires { IsMoment moment }
+        ensures { ⟦<FixedClock as Clock>⟧.told result ≡ Some moment }
     {
         FixedClock { moment }
     }
 }
 
 impl Clock for FixedClock {
+    ghost told = { λ c. Some c.moment };
+
     fn now(&mut self) -> u64 {
         self.moment
     }
@@ -47,6 +55,8 @@ impl<R: rt::Clock> SystemClock<R> {
 }
 
 impl<R: rt::Clock> Clock for SystemClock<R> {
+    ghost told = { λ _. None };
+
     fn now(&mut self) -> u64 {
         let Ok(time) = SystemTime::now(&self.runtime) else {
             return 0;

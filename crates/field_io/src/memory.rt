@@ -1,16 +1,14 @@
-ghost use Rattle.std.specs.Prelude.{◌≡◌, ◌≤◌, false, length, drop, take, min, None, Some, IfSome, if◌then◌else◌};
+ghost use Rattle.std.specs.Prelude.{◌≡◌, None, Some, IfSome, if◌then◌else◌};
 
 use crate::failures::Failures;
-use crate::{Dialer, Failed, Sink, Source};
-use field_text::Text;
+use crate::remaining::Remaining;
+use crate::{Failed, Sink, Source};
 
 /// A source over bytes in memory. The calls whose numbers are listed fail, counted from 1.
 #[derive(Debug, Drop)]
 pub struct MemSource {
-    bytes: Vec<u8>,
-    taken: usize,
+    bytes: Remaining,
     failures: Failures,
-    ghost within: { taken ≤ length bytes.items },
 }
 
 impl MemSource {
@@ -19,23 +17,20 @@ impl MemSource {
         ensures faults { ⟦<MemSource as Source>⟧.faults result ≡ 0 }
     {
         MemSource {
-            bytes,
-            taken: 0,
+            bytes: Remaining::new(bytes),
             failures: Failures::new(fails),
         }
     }
 }
 
 impl Source for MemSource {
-    ghost left = { λ s. Some (drop s.taken s.bytes.items) };
+    ghost left = { λ s. Some s.bytes };
 
     ghost faults = { λ s. s.failures.faults };
 
     fn take(&mut self, buf: &mut [u8]) -> Result<usize, Failed> {
         self.failures.call()?;
-        let count = copy_front(&self.bytes[self.taken..], buf);
-        self.taken += count;
-        Ok(count)
+        Ok(self.bytes.take(buf))
     }
 }
 
@@ -82,98 +77,4 @@ impl Sink for MemSink {
             }
         }
     }
-}
-
-/// A peer in memory with one canned reply for each exchange. The calls whose numbers are listed fail, counted from 1
-/// over all calls but `hang_up`; a dial past the last reply fails too.
-#[derive(Debug, Drop)]
-pub struct MemDialer {
-    replies: Vec<Vec<u8>>,
-    failures: Failures,
-    exchanges: usize,
-    taken: usize,
-    ends: u64,
-    is_open: bool,
-    has_taken: bool,
-}
-
-impl MemDialer {
-    pub fn make(replies: Vec<Vec<u8>>, fails: Vec<u64>) -> MemDialer
-        ensures faults { ⟦<MemDialer as Dialer>⟧.faults result ≡ 0 }
-        ensures closed { ⟦<MemDialer as Dialer>⟧.is_open result ≡ false }
-    {
-        MemDialer {
-            replies,
-            failures: Failures::new(fails),
-            exchanges: 0,
-            taken: 0,
-            ends: 0,
-            is_open: false,
-            has_taken: false,
-        }
-    }
-}
-
-impl Dialer for MemDialer {
-    ghost faults = { λ d. d.failures.faults };
-
-    ghost ends = { λ d. d.ends };
-
-    ghost is_open = { λ d. d.is_open };
-
-    ghost has_taken = { λ d. d.has_taken };
-
-    fn dial(&mut self, _authority: &Text) -> Result<(), Failed> {
-        self.is_open = false;
-        self.has_taken = false;
-        self.taken = 0;
-        self.failures.call()?;
-        if self.exchanges >= self.replies.len() {
-            return Err(self.failures.fault());
-        }
-        self.exchanges += 1;
-        self.is_open = true;
-        Ok(())
-    }
-
-    fn send(&mut self, bytes: &[u8]) -> Result<usize, Failed> {
-        self.failures.call()?;
-        Ok(bytes.len())
-    }
-
-    fn take(&mut self, buf: &mut [u8]) -> Result<usize, Failed> {
-        self.has_taken = true;
-        self.failures.call()?;
-        let count = match self.exchanges.checked_sub(1) {
-            Some(last) => copy_front(left_of(&self.replies, last, self.taken), buf),
-            None => 0,
-        };
-        self.taken = self.taken.saturating_add(count);
-        if count == 0 {
-            self.ends = self.ends.saturating_add(1);
-        }
-        Ok(count)
-    }
-
-    fn hang_up(&mut self) {
-        self.is_open = false;
-    }
-}
-
-// The bytes of a reply behind the first ones, none where there is no such reply.
-fn left_of(replies: &[Vec<u8>], place: usize, from: usize) -> &[u8] {
-    match replies.get(place) {
-        Some(reply) => reply.get(from..).unwrap_or(&[]),
-        None => &[],
-    }
-}
-
-// Moves the front of the bytes into the front of the buffer, as far as there is room.
-fn copy_front(bytes: &[u8], buf: &mut [u8]) -> usize
-    ensures count { result ≡ min (length bytes.now) (length buf.new) }
-    ensures copied { take result buf.new ≡ take result bytes.now }
-{
-    let count = bytes.len().min(buf.len());
-    buf[..count].copy_from_slice(&bytes[..count]);
-    count
 }

@@ -1,7 +1,10 @@
 use crate::*;
 use field_text::Text;
+use std::io::{Read, Write};
+use std::net::TcpListener;
 use std::process::Abort;
 use std::test::Fail;
+use std::time::Duration;
 
 // Takes in pieces of three bytes until the end or a fault.
 fn taken<S: Source>(rt: &impl Abort, source: &mut S, out: &mut Vec<u8>) -> Result<(), Fail> {
@@ -57,12 +60,10 @@ fn clocks_answer_moments(rt: HostRuntime) -> Result<(), Fail> {
 #[test]
 fn dialers_answer_with_their_replies(rt: HostRuntime) -> Result<(), Fail> {
     let alloc = rt.alloc();
-    let Ok(authority) = Text::from_bytes(alloc, b"localhost:8080") else {
-        return Ok(());
-    };
+    let authority = Text::from_string(String::from_str(alloc, "localhost:8080")?);
     let mut replies = Vec::new(alloc);
     replies.push(Vec::from_slice(alloc, b"hello")?)?;
-    let mut dialer = MemDialer::make(replies, Vec::from_slice(alloc, &[2])?);
+    let mut dialer = MemDialer::make(alloc, replies, Vec::from_slice(alloc, &[2])?);
     assert_eq!(rt; dialer.dial(&authority), Ok(()));
     assert_eq!(rt; dialer.send(b"hi"), Err(Failed));
     assert_eq!(rt; dialer.send(b"hi"), Ok(2));
@@ -72,6 +73,48 @@ fn dialers_answer_with_their_replies(rt: HostRuntime) -> Result<(), Fail> {
     assert_eq!(rt; dialer.take(&mut piece), Ok(1));
     assert_eq!(rt; dialer.take(&mut piece), Ok(0));
     dialer.hang_up();
+    assert_eq!(rt; dialer.dial(&authority), Err(Failed));
+    Ok(())
+}
+
+#[test]
+fn calm_objects_never_fail(rt: HostRuntime) -> Result<(), Fail> {
+    let alloc = rt.alloc();
+    let authority = Text::from_string(String::from_str(alloc, "localhost")?);
+    let mut piece = [0u8; 4];
+    let mut source = CalmSource::make(Vec::from_slice(alloc, b"seven")?);
+    assert_eq!(rt; source.take(&mut piece), Ok(4));
+    assert_eq!(rt; piece.as_slice(), b"seve".as_slice());
+    assert_eq!(rt; CalmSink::make().put(b"ab"), Ok(2));
+    let mut dialer = CalmDialer::make(Vec::new(alloc));
+    assert_eq!(rt; dialer.dial(&authority), Ok(()));
+    assert_eq!(rt; dialer.send(b"hi"), Ok(2));
+    assert_eq!(rt; dialer.take(&mut piece), Ok(0));
+    dialer.hang_up();
+    Ok(())
+}
+
+// A peer on a port of this machine that answers, then keeps silent, then closes.
+#[test]
+fn tcp_dialers_reach_a_listener(rt: HostRuntime) -> Result<(), Fail> {
+    let alloc = rt.alloc();
+    let listener = TcpListener::bind(&rt, "127.0.0.1:0")?;
+    let port = listener.local_addr()?.port();
+    let authority = Text::from_string(format!(in alloc; "127.0.0.1:{port}")?);
+    let mut dialer = TcpDialer::new(rt.clone()?, Duration::from_millis(200));
+    assert_eq!(rt; dialer.dial(&authority), Ok(()));
+    assert_eq!(rt; dialer.send(b"ping"), Ok(4));
+    let (mut peer, _) = listener.accept()?;
+    let mut piece = [0u8; 4];
+    assert_eq!(rt; peer.read(&mut piece)?, 4);
+    assert_eq!(rt; peer.write(b"pong")?, 4);
+    assert_eq!(rt; dialer.take(&mut piece), Ok(4));
+    assert_eq!(rt; piece.as_slice(), b"pong".as_slice());
+    assert_eq!(rt; dialer.take(&mut piece), Err(Failed));
+    drop(peer);
+    assert_eq!(rt; dialer.take(&mut piece), Ok(0));
+    dialer.hang_up();
+    drop(listener);
     assert_eq!(rt; dialer.dial(&authority), Err(Failed));
     Ok(())
 }

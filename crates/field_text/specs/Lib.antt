@@ -1,2 +1,4 @@
+pub mod Finds
+pub mod Steps
 pub mod Tables
 pub mod Xml

@@ -2,7 +2,7 @@
 use Rattle.std.specs.Prelude.{ℕ, suc, ◌<◌, ◌≡◌, ◌≢◌, ◌↔◌, IsTrue, Bool, true, false, not, ◌&&◌, nat_lt, List, [], ◌∷◌, length, slice_set, refl}
 use Rattle.std.specs.List.{list_all}
 use Rattle.std.proofs.Common.{ap, sym, subst, ◌∙◌, eqb-true, ltb-true, get_or-set_same, get_or-set_other, arith, eqb, set}
-use Rattle.std.proofs.lemmas.Bool.{eqb-false, false≢true}
+use Rattle.std.proofs.lemmas.Bool.{eqb-false, false≢true, and_parts}
 use Rattle.std.proofs.lemmas.List.Kept.{AllPairs-cons}
 use Rattle.form_def.specs.declared.field.Field.{Field}
 use Rattle.form_def.specs.Fields.{PathsDiffer, LacksPath}
@@ -50,10 +50,6 @@ are_ordered-more count needs before marks number numbers rest all same split may
     let here : may_come count needs (is_among before) number ≡ true = sym (may_come-same count needs (is_marked marks) (is_among before) number same) ∙ may in
     sym (ap (λ r. are_ordered count needs before r) split ∙ ap (λ b. b && are_ordered count needs (number ∷ before) numbers) here) ∙ so_far
 
-and-first : (a b : Bool) → (a && b) ≡ true → a ≡ true
-and-first true b e = refl
-and-first false b e = e
-
 pub may_come_within : (count : ℕ) (needs : ℕ → List ℕ) (p : ℕ → Bool) (number : ℕ) → may_come count needs p number ≡ true → number < count
 may_come_within count needs p number may =
-    ltb-true number count (and-first (nat_lt number count) (not (p number)) (and-first (nat_lt number count && not (p number)) _ may))
+    ltb-true number count ((and_parts (nat_lt number count) (not (p number)) ((and_parts (nat_lt number count && not (p number)) _ may).0)).0)

@@ -16,6 +16,6 @@ pub use expr::{Expr, Func, Op};
 pub use field::{Cell, Choices, EntityDef, Field, InnerTable, Kind, OuterTable};
 pub use fields::are_within;
 pub use form::FormDef;
-pub use order::dependencies;
+pub use order::{dependencies, is_marked};
 pub use parts::{FormFault, FormParts};
 pub use paths::parent_path;

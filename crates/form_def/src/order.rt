@@ -8,7 +8,8 @@ use crate::reads::push_reads_of;
 use field_text::NoMemory;
 use std::alloc::Global;
 
-fn is_marked(marks: &[bool], number: u64) -> bool
+/// Whether the field of a number is marked.
+pub fn is_marked(marks: &[bool], number: u64) -> bool
     ensures { result ≡ is_marked marks.now number }
 {
     marks.get(number as usize).copied().unwrap_or(false)

@@ -1,52 +1,40 @@
-mod binds;
-mod controls;
-mod documents;
-mod limits;
-mod model;
-mod telling;
-
-use crate::read_form;
-use crate::tests::telling::{tell_answer, tell_whole};
+use crate::{FormRefused, read_form};
+use form_def::{Choices, FormDef, Kind};
+use rosa_doc::DocRefused;
 use std::alloc::Global;
-use std::process::Abort;
 use std::test::Fail;
 
-/// The answer to a document of these fields, these further children of the model, and this body.
-pub fn told(alloc: Global, fields: &str, model: &str, body: &str) -> Result<String, Fail> {
-    let mut document = String::from_str(alloc, "<h><head><model><instance><d id='f'>")?;
-    document.push_str(fields)?;
-    document.push_str("</d></instance>")?;
-    document.push_str(model)?;
-    document.push_str("</model></head><body>")?;
-    document.push_str(body)?;
-    document.push_str("</body></h>")?;
-    let answer = read_form(alloc, document.as_bytes());
-    let mut out = String::new(alloc);
-    tell_answer(&mut out, &answer)?;
-    Ok(out)
+static FORM: &str =
+    "<h><head><model><instance><d id='f'><a/><b/></d></instance><instance id='t'/><bind nodeset='/d/b' calculate='/d/a'/></model></head><body><select1 ref='/d/a'><itemset nodeset=\"instance('t')/root/item\"/></select1></body></h>";
+
+fn form_of(alloc: Global, text: &str) -> Result<FormDef, Fail> {
+    Ok(read_form(alloc, text.as_bytes())?)
 }
 
-pub type Row = (&'static str, &'static str, &'static str, &'static str);
+fn refusal_of(alloc: Global, text: &str) -> Option<FormRefused> {
+    read_form(alloc, text.as_bytes()).err()
+}
 
-/// Checks the answers of these rows.
-pub fn check_rows(rt: &impl Abort, alloc: Global, rows: &[Row]) -> Result<(), Fail> {
-    for (fields, model, body, want) in rows {
-        let out = told(alloc, fields, model, body)?;
-        assert_eq!(rt; out.as_str(), *want, "{fields} {model} {body}");
-    }
+#[test]
+fn a_form_is_read(rt: HostRuntime) -> Result<(), Fail> {
+    let form = form_of(rt.alloc(), FORM)?;
+    assert_eq!(rt; form.id.as_str(), "f");
+    let first = form.fields.get(0).ok_or("a field")?;
+    assert_eq!(rt; first.path.as_str(), "/d/a");
+    assert_eq!(rt; first.kind, Kind::One);
+    assert!(rt; matches!(&first.choices, Choices::Rows { .. }));
+    let second = form.fields.get(1).ok_or("a field")?;
+    assert!(rt; second.calculate.is_some());
+    assert_eq!(rt; form.order.as_slice(), [0, 1].as_slice());
     Ok(())
 }
 
-/// Checks the answer to a whole document, with the head of the form.
-pub fn check_document(
-    rt: &impl Abort,
-    alloc: Global,
-    document: &str,
-    want: &str,
-) -> Result<(), Fail> {
-    let answer = read_form(alloc, document.as_bytes());
-    let mut out = String::new(alloc);
-    tell_whole(&mut out, &answer)?;
-    assert_eq!(rt; out.as_str(), want, "{document}");
+#[test]
+fn others_are_refused(rt: HostRuntime) -> Result<(), Fail> {
+    let unclosed = DocRefused::Unclosed { at: 3 };
+    let refusal = refusal_of(rt.alloc(), "<h>");
+    assert!(rt; matches!(refusal, Some(FormRefused::Doc(refusal)) if refusal == unclosed));
+    let refusal = refusal_of(rt.alloc(), "<h><head/><body/></h>");
+    assert!(rt; matches!(refusal, Some(FormRefused::NoPrimary)));
     Ok(())
 }

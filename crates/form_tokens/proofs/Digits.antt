@@ -2,7 +2,7 @@
 use Rattle.std.specs.Prelude.{ℕ, zero, suc, ◌<◌, ◌≤◌, ◌≡◌, ◌+◌, ◌-◌, ◌*◌, ◌^◌, Bool, true, false, List, [], ◌∷◌, length, nat_le, ◌&&◌, refl}
 use Rattle.std.proofs.Common.{ap, sym, ◌∙◌, arith, leb-true}
 use Rattle.std.proofs.Math.Nat.{pow-succ', pow-le-pow_right}
-use Rattle.std.proofs.lemmas.Bool.{false≢true}
+use Rattle.std.proofs.lemmas.Bool.{false≢true, and_parts}
 use Rattle.form_tokens.specs.Tokens.{is_digit, digits_at}
 
 pub small_at : (value left : ℕ) → value < 10 ^ (15 - left) → value < 10 ^ 15
@@ -38,9 +38,5 @@ pub digits_end_at : (n value : ℕ) (rest : List ℕ) (all : ℕ × List ℕ) �
 digits_end_at n value [] all none e = digits_end n value all e
 digits_end_at n value (c ∷ cs) all none e = absurd (omega arith)
 
-and-second : (a b : Bool) → (a && b) ≡ true → b ≡ true
-and-second true b e = e
-and-second false b e = absurd (false≢true e)
-
 pub digit_small : (c digit : ℕ) → is_digit c ≡ true → digit ≡ c - 48 → digit < 10
-digit_small c digit on is = let high : c ≤ 57 = leb-true c 57 (and-second (nat_le 48 c) (nat_le c 57) on) in omega arith
+digit_small c digit on is = let high : c ≤ 57 = leb-true c 57 ((and_parts (nat_le 48 c) (nat_le c 57) on).1) in omega arith

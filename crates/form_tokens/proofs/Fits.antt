@@ -3,20 +3,12 @@ use Rattle.std.specs.Prelude.{ℕ, zero, suc, ◌≡◌, ◌+◌, ◌-◌, ◌*�
 use Rattle.std.specs.List.{list_all}
 use Rattle.std.proofs.Common.{sym, ap, ◌∙◌, arith, append_assoc, eqb, eqb-true, leb-true, length-append}
 use Rattle.std.proofs.Math.Seq.{take-append_seam}
-use Rattle.std.proofs.lemmas.Bool.{cond_both, false≢true, ne_eqb, lt-leb}
+use Rattle.std.proofs.lemmas.Bool.{cond_both, false≢true, ne_eqb, lt-leb, and_parts}
 use Rattle.field_text.specs.Xml.{is_name_start, is_name_char, begins_as_name, is_local_name}
 use Rattle.rosa_pieces.specs.Reading.{past}
 use Rattle.rosa_pieces.proofs.Fronts.{rest_fits}
 use Rattle.form_tokens.specs.Tokens.{is_digit, digits_at, text_before, past_names, past_attribute, past_steps}
 use Rattle.form_tokens.specs.Spelling.{are_names, slashed, steps}
-
-pub and-first : (a b : Bool) → (a && b) ≡ true → a ≡ true
-and-first true b e = refl
-and-first false b e = e
-
-pub and-second : (a b : Bool) → (a && b) ≡ true → b ≡ true
-and-second true b e = e
-and-second false b e = absurd (false≢true e)
 
 pub past_fits : (p : ℕ → Bool) (cs : List ℕ) → length (past p cs) ≤ length cs
 past_fits p cs = rest_fits p cs (past p cs) refl
@@ -54,40 +46,40 @@ pub digits_pass : (n value : ℕ) (ds r : List ℕ) → list_all is_digit ds ≡
 digits_pass n value [] r all few = (digits_fit n value r, digits_stop n value r)
 digits_pass zero value (d ∷ ds) r all few = absurd (omega arith)
 digits_pass (suc n) value (d ∷ ds) r all few =
-    rw (and-first (is_digit d) (list_all is_digit ds) all) (digits_pass n (value * 10 + (d - 48)) ds r (and-second (is_digit d) (list_all is_digit ds) all) (omega arith))
+    rw ((and_parts (is_digit d) (list_all is_digit ds) all).0) (digits_pass n (value * 10 + (d - 48)) ds r ((and_parts (is_digit d) (list_all is_digit ds) all).1) (omega arith))
 
 -- characters that pass are passed at the front
 pub past_append : (p : ℕ → Bool) (xs r : List ℕ) → list_all p xs ≡ true → past p (xs ++ r) ≡ past p r
 past_append p [] r all = refl
-past_append p (x ∷ xs) r all = rw (and-first (p x) (list_all p xs) all) (past_append p xs r (and-second (p x) (list_all p xs) all))
+past_append p (x ∷ xs) r all = rw ((and_parts (p x) (list_all p xs) all).0) (past_append p xs r ((and_parts (p x) (list_all p xs) all).1))
 
 names_append : (xs r : List ℕ) → list_all is_name_char xs ≡ true → past_names (xs ++ r) ≡ past_names r
 names_append [] r all = refl
-names_append (x ∷ xs) r all = rw (and-first (is_name_char x) (list_all is_name_char xs) all) (names_append xs r (and-second (is_name_char x) (list_all is_name_char xs) all))
+names_append (x ∷ xs) r all = rw ((and_parts (is_name_char x) (list_all is_name_char xs) all).0) (names_append xs r ((and_parts (is_name_char x) (list_all is_name_char xs) all).1))
 
 pub begins_append : (name r : List ℕ) → is_local_name name ≡ true → begins_as_name (name ++ r) ≡ true
 begins_append [] r local = absurd (false≢true local)
-begins_append (c ∷ cs) r local = and-first (is_name_start c) (list_all is_name_char (c ∷ cs)) local
+begins_append (c ∷ cs) r local = (and_parts (is_name_start c) (list_all is_name_char (c ∷ cs)) local).0
 
 pub name_chars : (name : List ℕ) → is_local_name name ≡ true → list_all is_name_char name ≡ true
-name_chars name local = and-second (begins_as_name name) (list_all is_name_char name) local
+name_chars name local = (and_parts (begins_as_name name) (list_all is_name_char name) local).1
 
 slashed_append : (names : List (List ℕ)) (r : List ℕ) → are_names names ≡ true → past_names (slashed names ++ r) ≡ past_names r
 slashed_append [] r all = refl
 slashed_append (name ∷ names) r all =
-    let local : is_local_name name ≡ true = and-first (is_local_name name) (are_names names) all in
+    let local : is_local_name name ≡ true = (and_parts (is_local_name name) (are_names names) all).0 in
     let apart : (name ++ slashed names) ++ r ≡ name ++ (slashed names ++ r) = append_assoc name (slashed names) r in
     let begins : begins_as_name ((name ++ slashed names) ++ r) ≡ true = ap begins_as_name apart ∙ begins_append name (slashed names ++ r) local in
-    rw begins (ap past_names apart ∙ (names_append name (slashed names ++ r) (name_chars name local) ∙ slashed_append names r (and-second (is_local_name name) (are_names names) all)))
+    rw begins (ap past_names apart ∙ (names_append name (slashed names ++ r) (name_chars name local) ∙ slashed_append names r ((and_parts (is_local_name name) (are_names names) all).1)))
 
 -- a name and names behind it are passed at the front
 pub names_pass : (name : List ℕ) (names : List (List ℕ)) (r : List ℕ) → are_names (name ∷ names) ≡ true
     → (begins_as_name ((name ++ slashed names) ++ r) ≡ true) × (past_names ((name ++ slashed names) ++ r) ≡ past_names r)
 names_pass name names r all =
-    let local : is_local_name name ≡ true = and-first (is_local_name name) (are_names names) all in
+    let local : is_local_name name ≡ true = (and_parts (is_local_name name) (are_names names) all).0 in
     let apart : (name ++ slashed names) ++ r ≡ name ++ (slashed names ++ r) = append_assoc name (slashed names) r in (
       ap begins_as_name apart ∙ begins_append name (slashed names ++ r) local,
-      ap past_names apart ∙ (names_append name (slashed names ++ r) (name_chars name local) ∙ slashed_append names r (and-second (is_local_name name) (are_names names) all)),
+      ap past_names apart ∙ (names_append name (slashed names ++ r) (name_chars name local) ∙ slashed_append names r ((and_parts (is_local_name name) (are_names names) all).1)),
     )
 
 -- a character that begins a name is none that doesn't
@@ -100,7 +92,7 @@ no_start c k start off = no_start_at (eqb c k) refl
 
 digit_no_start : (c : ℕ) → is_digit c ≡ true → is_name_start c ≡ false
 digit_no_start c digit =
-    let low : c ≤ 57 = leb-true c 57 (and-second (nat_le 48 c) (nat_le c 57) digit) in
+    let low : c ≤ 57 = leb-true c 57 ((and_parts (nat_le 48 c) (nat_le c 57) digit).1) in
     let upper : nat_le 65 c ≡ false = lt-leb 65 c (omega arith) in
     let lower : nat_le 97 c ≡ false = lt-leb 97 c (omega arith) in
     let line : (c == 95) ≡ false = ne_eqb c 95 (λ e. absurd (omega arith)) in

@@ -2,7 +2,7 @@
 use Rattle.std.specs.Prelude.{ℕ, zero, suc, pos, ◌≡◌, ◌+◌, ◌-◌, ◌*◌, ◌≤◌, ◌==◌, Bool, true, false, cond, ◌&&◌, ◌||◌, List, [], ◌∷◌, ◌++◌, length, fold, Option, Some, None, encode_utf8_all, refl}
 use Rattle.std.specs.List.{list_all}
 use Rattle.std.proofs.Common.{sym, ap, subst, ◌∙◌, arith, append_assoc, eqb, eqb-true}
-use Rattle.std.proofs.lemmas.Bool.{false≢true}
+use Rattle.std.proofs.lemmas.Bool.{false≢true, and_parts}
 use Rattle.field_text.specs.Xml.{is_name_start, is_name_char, begins_as_name, is_local_name}
 use Rattle.rosa_pieces.specs.Reading.{◌>>=◌, front, past, past_one}
 use Rattle.rosa_pieces.proofs.Fronts.{front_past, front_passes, take_front}
@@ -11,7 +11,7 @@ use Rattle.form_tokens.specs.declared.token.Token.{Token}
 use Rattle.form_tokens.specs.declared.token.Token.TheVariants.{Digits, Quoted, Absolute, Relative, Name, Dot, Open, Close, OpenBracket, CloseBracket, Comma, Equal, NotEqual, Less, LessEqual, Greater, GreaterEqual, Plus, Minus, Star}
 use Rattle.form_tokens.specs.Tokens.{is_digit, digits_at, is_inside, text_before, quoted_at, past_names, past_attribute, absolute_at, past_steps, dotted_at, name_at, sign_or, not_equal_at, sign_at, digits_token, token_at}
 use Rattle.form_tokens.specs.Spelling.{value_of, is_quote, are_names, slashed, steps, IsToken, digits, quoted, absolute, absolute_attribute, relative, named, dot, opening, closing, opening_bracket, closing_bracket, comma, equal, not_equal, less, less_equal, greater, greater_equal, plus, minus, star, StandsBefore}
-use Rattle.form_tokens.proofs.Fits.{and-first, and-second, text_is}
+use Rattle.form_tokens.proofs.Fits.{text_is}
 
 -- what is read, if anything is, stands before what is left
 abbrev pub IsFound : List ℕ → Option (Token × List ℕ) → Type 0
@@ -130,13 +130,13 @@ data Attribute : List ℕ → List ℕ → Type 0 where
 
 attribute_by : (c d : ℕ) (cs : List ℕ) (t : Bool) → ((c == 47) && (d == 64) && begins_as_name cs) ≡ t → Attribute (c ∷ d ∷ cs) (cond t (past is_name_char cs) (c ∷ d ∷ cs))
 attribute_by c d cs false e = no_attribute (c ∷ d ∷ cs)
-attribute_by c d [] true e = absurd (false≢true (and-second ((c == 47) && (d == 64)) false e))
+attribute_by c d [] true e = absurd (false≢true ((and_parts ((c == 47) && (d == 64)) false e).1))
 attribute_by c d (k ∷ ks) true e =
-    let signs : ((c == 47) && (d == 64)) ≡ true = and-first ((c == 47) && (d == 64)) (is_name_start k) e in
-    let start : is_name_start k ≡ true = and-second ((c == 47) && (d == 64)) (is_name_start k) e in
+    let signs : ((c == 47) && (d == 64)) ≡ true = (and_parts ((c == 47) && (d == 64)) (is_name_start k) e).0 in
+    let start : is_name_start k ≡ true = (and_parts ((c == 47) && (d == 64)) (is_name_start k) e).1 in
     let char : is_name_char k ≡ true = start_is_char k start in
-    let slash : c ≡ 47 = eqb-true c 47 (and-first (c == 47) (d == 64) signs) in
-    let sign : d ≡ 64 = eqb-true d 64 (and-second (c == 47) (d == 64) signs) in
+    let slash : c ≡ 47 = eqb-true c 47 ((and_parts (c == 47) (d == 64) signs).0) in
+    let sign : d ≡ 64 = eqb-true d 64 ((and_parts (c == 47) (d == 64) signs).1) in
     let last = front is_name_char (k ∷ ks) in
     let rest = past is_name_char (k ∷ ks) in
     let begins : begins_as_name last ≡ true = rw char start in
@@ -165,10 +165,10 @@ steps_by : (a b c : ℕ) (cs : List ℕ) (t : Bool) → ((a == 46) && (b == 46) 
     → (n : ℕ) × (a ∷ b ∷ c ∷ cs ≡ steps n ++ cond t (past_steps cs) (a ∷ b ∷ c ∷ cs))
 steps_by a b c cs false e others = (0, refl)
 steps_by a b c cs true e (n, parts) =
-    let periods : ((a == 46) && (b == 46)) ≡ true = and-first ((a == 46) && (b == 46)) (c == 47) e in
-    let first : a ≡ 46 = eqb-true a 46 (and-first (a == 46) (b == 46) periods) in
-    let second : b ≡ 46 = eqb-true b 46 (and-second (a == 46) (b == 46) periods) in
-    let slash : c ≡ 47 = eqb-true c 47 (and-second ((a == 46) && (b == 46)) (c == 47) e) in
+    let periods : ((a == 46) && (b == 46)) ≡ true = (and_parts ((a == 46) && (b == 46)) (c == 47) e).0 in
+    let first : a ≡ 46 = eqb-true a 46 ((and_parts (a == 46) (b == 46) periods).0) in
+    let second : b ≡ 46 = eqb-true b 46 ((and_parts (a == 46) (b == 46) periods).1) in
+    let slash : c ≡ 47 = eqb-true c 47 ((and_parts ((a == 46) && (b == 46)) (c == 47) e).1) in
     (suc n, ap (λ x. x ∷ b ∷ c ∷ cs) first ∙ (ap (λ x. 46 ∷ x ∷ c ∷ cs) second ∙ (ap (λ x. 46 ∷ 46 ∷ x ∷ cs) slash ∙ ap (λ r. 46 ∷ 46 ∷ 47 ∷ r) parts)))
 
 steps_found : (cs : List ℕ) → (n : ℕ) × (cs ≡ steps n ++ past_steps cs)

@@ -2,14 +2,14 @@
 use Rattle.std.specs.Prelude.{ℕ, suc, ◌≡◌, ◌+◌, ◌-◌, ◌*◌, ◌<◌, ◌≤◌, ◌==◌, Bool, true, false, cond, ◌||◌, List, [], ◌∷◌, ◌++◌, length, Option, Some, None, pos, encode_utf8_all, refl}
 use Rattle.std.specs.List.{list_all}
 use Rattle.std.proofs.Common.{sym, ap, subst, ◌∙◌, arith, append_assoc, eq-eqb, eqb-true}
-use Rattle.std.proofs.lemmas.Bool.{false≢true}
+use Rattle.std.proofs.lemmas.Bool.{false≢true, and_parts}
 use Rattle.field_text.specs.Xml.{is_name_start, is_name_char, begins_as_name, is_local_name}
 use Rattle.rosa_pieces.specs.Reading.{past}
 use Rattle.form_tokens.specs.declared.token.Token.{Token}
 use Rattle.form_tokens.specs.declared.token.Token.TheVariants.{Digits, Quoted, Absolute, Relative, Name, Dot, Less, LessEqual, Greater, GreaterEqual}
 use Rattle.form_tokens.specs.Tokens.{is_digit, is_inside, text_before, quoted_at, past_names, past_attribute, absolute_at, past_steps, dotted_at, name_at, sign_or, not_equal_at, sign_at, token_at}
 use Rattle.form_tokens.specs.Spelling.{value_of, are_names, slashed, steps, IsToken, digits, quoted, absolute, absolute_attribute, relative, named, dot, opening, closing, opening_bracket, closing_bracket, comma, equal, not_equal, less, less_equal, greater, greater_equal, plus, minus, star}
-use Rattle.form_tokens.proofs.Fits.{and-first, and-second, past_fits, names_fit, attribute_fits, digits_pass, past_append, begins_append, name_chars, names_pass, no_start, no_digit, steps_pass, steps_shrink, text_is}
+use Rattle.form_tokens.proofs.Fits.{past_fits, names_fit, attribute_fits, digits_pass, past_append, begins_append, name_chars, names_pass, no_start, no_digit, steps_pass, steps_shrink, text_is}
 
 -- a token is read that leaves at most so many characters, and no other one leaves so many
 abbrev pub Reads : Token → ℕ → Option (Token × List ℕ) → Type 0
@@ -24,8 +24,8 @@ digits_read : (cs r : List ℕ) → 0 < length cs → length cs ≤ 15 → list_
 unfolding token_at
 digits_read [] r some few all = absurd (omega arith)
 digits_read (c ∷ cs) r some few all =
-    let (few_left, value) = digits_pass 14 (0 * 10 + (c - 48)) cs r (and-second (is_digit c) (list_all is_digit cs) all) (omega arith) in
-    rw (and-first (is_digit c) (list_all is_digit cs) all) (few_left, λ same. ap (λ v. Digits (pos v)) (value same))
+    let (few_left, value) = digits_pass 14 (0 * 10 + (c - 48)) cs r ((and_parts (is_digit c) (list_all is_digit cs) all).1) (omega arith) in
+    rw ((and_parts (is_digit c) (list_all is_digit cs) all).0) (few_left, λ same. ap (λ v. Digits (pos v)) (value same))
 
 quoted_read : (quote : ℕ) (inside r : List ℕ) → list_all (is_inside quote) inside ≡ true → Reads (Quoted (encode_utf8_all inside)) (length r) (quoted_at quote ((inside ++ quote ∷ []) ++ r))
 unfolding quoted_at
@@ -63,8 +63,8 @@ name_read : (cs r : List ℕ) → is_local_name cs ≡ true → Reads (Name (enc
 unfolding token_at name_at
 name_read [] r local = absurd (false≢true local)
 name_read (c ∷ cs) r local =
-    let start : is_name_start c ≡ true = and-first (is_name_start c) (list_all is_name_char (c ∷ cs)) local in
-    let chars : list_all is_name_char cs ≡ true = and-second (is_name_char c) (list_all is_name_char cs) (name_chars (c ∷ cs) local) in
+    let start : is_name_start c ≡ true = (and_parts (is_name_start c) (list_all is_name_char (c ∷ cs)) local).0 in
+    let chars : list_all is_name_char cs ≡ true = (and_parts (is_name_char c) (list_all is_name_char cs) (name_chars (c ∷ cs) local)).1 in
     let left : length (past is_name_char (cs ++ r)) ≤ length r = subst (λ (x : List ℕ). length x ≤ length r) (sym (past_append is_name_char cs r chars)) (past_fits is_name_char r) in
     rw (no_digit c start, no_start c 34 start refl, no_start c 39 start refl, no_start c 47 start refl, no_start c 46 start refl, start)
     (reads_text Name (c ∷ cs) r (c ∷ (cs ++ r)) (past is_name_char (cs ++ r)) refl left)

@@ -1,8 +1,9 @@
 -- What is shown and calculated depends only on the fields that it depends on.
-use Rattle.std.specs.Prelude.{ℕ, ◌≡◌, Bool, true, false, ◌&&◌, cond, List, [], ◌∷◌, ◌++◌, slice_get, Option, Some, None, refl}
+use Rattle.std.specs.Prelude.{ℕ, ◌≡◌, Bool, true, ◌&&◌, cond, List, [], ◌++◌, Option, Some, None, refl}
 use Rattle.std.specs.List.{list_all}
 use Rattle.std.specs.Option.{option_to_list}
-use Rattle.std.proofs.Common.{ap, sym, ◌∙◌}
+use Rattle.std.proofs.Common.{ap, ◌∙◌}
+use Rattle.std.proofs.lemmas.Bool.{and_parts}
 use Rattle.field_text.specs.Tables.{NamedTable}
 use Rattle.form_def.specs.declared.expr.Expr.{Expr}
 use Rattle.form_def.specs.declared.field.Field.{Field}
@@ -14,7 +15,7 @@ use Rattle.expr_values.specs.Values.{truth_of, calculated_text}
 use Rattle.expr_values.specs.Rows.{no_columns, rows_named}
 use Rattle.expr_values.specs.Evaluation.{text_read}
 use Rattle.expr_values.proofs.DependsLemmas.{value_same}
-use Rattle.expr_values.proofs.Truths.{and-first, all-first, all-second}
+use Rattle.expr_values.proofs.Truths.{all-first, all-second}
 use Rattle.question_rules.specs.Fields.{text_at, value_of, holds_or}
 use Rattle.question_rules.specs.Shown.{is_parent_shown, is_shown_by}
 use Rattle.question_rules.specs.Settled.{text_by}
@@ -44,7 +45,7 @@ text_agrees form tables ok a b same own (Some expr) old on = ap calculated_text 
 
 parent_agrees : (ok : ℕ → Bool) (a b : Made) → Agree ok a b → (parent : Option ℕ) → list_all ok (option_to_list parent) ≡ true → is_parent_shown a.marks parent ≡ is_parent_shown b.marks parent
 parent_agrees ok a b same None on = refl
-parent_agrees ok a b same (Some parent) on = (same parent (and-first (ok parent) true on)).0
+parent_agrees ok a b same (Some parent) on = (same parent ((and_parts (ok parent) true on).0)).0
 
 pub shown_agrees : (form : FormDef) (tables : List NamedTable) (ok : ℕ → Bool) (a b : Made) → Agree ok a b → (own : ℕ) (field : Field) → list_all ok (dependencies form.fields own field) ≡ true
     → is_shown_by form tables a.texts a.marks own field ≡ is_shown_by form tables b.texts b.marks own field

@@ -3,3 +3,5 @@ pub mod Agreement
 pub mod Making
 pub mod Unique
 pub mod QuestionLemmas
+pub mod LeastLemmas
+pub mod OrderLemmas

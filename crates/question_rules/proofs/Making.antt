@@ -1,9 +1,9 @@
 -- What is made along the order is right at each field.
-use Rattle.std.specs.Prelude.{ℕ, ◌+◌, ◌<◌, ◌≡◌, ◌≢◌, Bool, true, false, ◌&&◌, ◌||◌, List, [], ◌∷◌, length, slice_get, slice_set, Option, Some, None, refl}
+use Rattle.std.specs.Prelude.{ℕ, ◌<◌, ◌≡◌, ◌≢◌, Bool, true, false, ◌||◌, List, [], ◌∷◌, length, slice_get, slice_set, Option, Some, None, refl}
 use Rattle.std.specs.List.{list_all}
 use Rattle.std.specs.Option.{option_map_or}
 use Rattle.std.proofs.Common.{ap, sym, ◌∙◌, subst, arith, eqb, eqb-true, length-set, get_or-set_same, get_or-set_other}
-use Rattle.std.proofs.lemmas.Bool.{eqb-false, false≢true}
+use Rattle.std.proofs.lemmas.Bool.{eqb-false, false≢true, and_parts}
 use Rattle.std.proofs.lemmas.List.{set-get_or, length-replicate}
 use Rattle.std.proofs.lemmas.Option.{slice_get_within}
 use Rattle.field_text.specs.Tables.{NamedTable}
@@ -13,11 +13,10 @@ use Rattle.form_def.specs.declared.form.FormDef.{FormDef}
 use Rattle.form_def.specs.Reads.{reads_of}
 use Rattle.form_def.specs.Order.{is_among, is_marked, may_come, are_ordered, dependencies, dependencies_at}
 use Rattle.form_def.proofs.FieldLemmas.{may_come_within}
-use Rattle.expr_values.proofs.Truths.{and-first, and-second}
 use Rattle.question_rules.specs.Fields.{text_at}
 use Rattle.question_rules.specs.Shown.{is_shown_by, IsShown}
-use Rattle.question_rules.specs.Settled.{text_by, IsSettledWith, IsSettled}
-use Rattle.question_rules.specs.Along.{Made, mark_at, text_made, marks_with, texts_with, made_with, made_along, marked_along, unmarked, shown_marks, settled}
+use Rattle.question_rules.specs.Settled.{text_by, IsSettledWith}
+use Rattle.question_rules.specs.Along.{Made, mark_at, text_made, marks_with, made_with, made_along, marked_along, unmarked, shown_marks, settled}
 use Rattle.question_rules.proofs.Placed.{placed_after, is_new, has_before, order_along, all_placed}
 use Rattle.question_rules.proofs.Agreement.{Agree, shown_agrees, text_agrees, calculate_reads}
 
@@ -65,8 +64,8 @@ among_more number placed k on = either (eqb number k) (is_among placed k) on whe
 
 all_more : (number : ℕ) (placed xs : List ℕ) → list_all (is_among placed) xs ≡ true → list_all (is_among (number ∷ placed)) xs ≡ true
 all_more number placed [] on = refl
-all_more number placed (x ∷ xs) on = rw (among_more number placed x (and-first (is_among placed x) (list_all (is_among placed) xs) on))
-    (all_more number placed xs (and-second (is_among placed x) (list_all (is_among placed) xs) on))
+all_more number placed (x ∷ xs) on = rw (among_more number placed x ((and_parts (is_among placed x) (list_all (is_among placed) xs) on).0))
+    (all_more number placed xs ((and_parts (is_among placed x) (list_all (is_among placed) xs) on).1))
 
 differs : (placed : List ℕ) (number k : ℕ) → is_among placed number ≡ false → is_among placed k ≡ true → k ≢ number
 differs placed number k off on e = false≢true (sym off ∙ ap (is_among placed) (sym e) ∙ on)
@@ -134,9 +133,9 @@ all_more_along : (form : FormDef) (tables : List NamedTable) (calculation : Fiel
     → SoFar form tables calculation before (placed_after placed numbers) (made_along form tables calculation numbers made)
 all_more_along form tables calculation is before placed [] made ordered s = s
 all_more_along form tables calculation is before placed (number ∷ numbers) made ordered s =
-    let may = and-first (may_come (length form.fields) (dependencies_at form.fields) (is_among placed) number) (are_ordered (length form.fields) (dependencies_at form.fields) (number ∷ placed) numbers) ordered in
+    let may = (and_parts (may_come (length form.fields) (dependencies_at form.fields) (is_among placed) number) (are_ordered (length form.fields) (dependencies_at form.fields) (number ∷ placed) numbers) ordered).0 in
     all_more_along form tables calculation is before (number ∷ placed) numbers (made_with form tables calculation made number)
-    (and-second (may_come (length form.fields) (dependencies_at form.fields) (is_among placed) number) (are_ordered (length form.fields) (dependencies_at form.fields) (number ∷ placed) numbers) ordered)
+    ((and_parts (may_come (length form.fields) (dependencies_at form.fields) (is_among placed) number) (are_ordered (length form.fields) (dependencies_at form.fields) (number ∷ placed) numbers) ordered).1)
     (one_more form tables calculation is before placed made number may s)
 
 at_first : (form : FormDef) (tables : List NamedTable) (calculation : Field → Option Expr) (texts : List (List ℕ)) → length texts ≡ length form.fields

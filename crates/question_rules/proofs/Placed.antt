@@ -1,13 +1,12 @@
 -- An order places every field: so many different numbers below so many are all of them.
-use Rattle.std.specs.Prelude.{ℕ, zero, suc, ◌+◌, ◌<◌, ◌≤◌, ◌≡◌, ◌≢◌, ◌==◌, Bool, true, false, not, ◌&&◌, ◌||◌, nat_lt, List, [], ◌∷◌, length, slice_set, replicate, refl}
+use Rattle.std.specs.Prelude.{ℕ, zero, suc, ◌+◌, ◌<◌, ◌≤◌, ◌≡◌, ◌==◌, Bool, true, false, not, ◌&&◌, nat_lt, List, [], ◌∷◌, length, slice_set, replicate, refl}
 use Rattle.std.specs.List.{list_all}
-use Rattle.std.proofs.Common.{ap, sym, ◌∙◌, arith, eqb-true, ltb-true, eqb, length-set}
+use Rattle.std.proofs.Common.{ap, sym, ◌∙◌, arith, eqb-true, length-set}
 use Rattle.std.proofs.lemmas.List.{length-replicate}
-use Rattle.std.proofs.lemmas.Bool.{false≢true}
+use Rattle.std.proofs.lemmas.Bool.{false≢true, and_parts, not-true}
 use Rattle.form_def.specs.declared.field.Field.{Field}
 use Rattle.form_def.specs.Order.{is_among, is_marked, may_come, are_ordered, is_order, dependencies_at}
 use Rattle.form_def.proofs.FieldLemmas.{is_marked-set, may_come_within}
-use Rattle.expr_values.proofs.Truths.{and-first, and-second, not-true}
 
 -- the numbers that are placed once these come behind those
 abbrev pub placed_after : List ℕ → List ℕ → List ℕ
@@ -58,11 +57,12 @@ none_placed count = record { marks = replicate count false; long = length-replic
 
 -- what `may_come` says
 pub is_new : (fields : List Field) (placed : List ℕ) (number : ℕ) → may_come (length fields) (dependencies_at fields) (is_among placed) number ≡ true → is_among placed number ≡ false
-is_new fields placed number may = not-true (is_among placed number) (and-second (nat_lt number (length fields)) (not (is_among placed number))
-    (and-first (nat_lt number (length fields) && not (is_among placed number)) (list_all (is_among placed) (dependencies_at fields number)) may))
+is_new fields placed number may = not-true (is_among placed number) (and_parts (nat_lt number (length fields)) (not (is_among placed number))
+    (and_parts (nat_lt number (length fields) && not (is_among placed number))
+    (list_all (is_among placed) (dependencies_at fields number)) may).0).1
 
 pub has_before : (fields : List Field) (placed : List ℕ) (number : ℕ) → may_come (length fields) (dependencies_at fields) (is_among placed) number ≡ true → list_all (is_among placed) (dependencies_at fields number) ≡ true
-has_before fields placed number may = and-second (nat_lt number (length fields) && not (is_among placed number)) (list_all (is_among placed) (dependencies_at fields number)) may
+has_before fields placed number may = (and_parts (nat_lt number (length fields) && not (is_among placed number)) (list_all (is_among placed) (dependencies_at fields number)) may).1
 
 one_placed : (fields : List Field) (placed : List ℕ) (number : ℕ) → may_come (length fields) (dependencies_at fields) (is_among placed) number ≡ true → Placing (length fields) placed → Placing (length fields) (number ∷ placed)
 one_placed fields placed number may p =
@@ -78,8 +78,8 @@ one_placed fields placed number may p =
 placed_along : (fields : List Field) (placed numbers : List ℕ) → are_ordered (length fields) (dependencies_at fields) placed numbers ≡ true → Placing (length fields) placed → Placing (length fields) (placed_after placed numbers)
 placed_along fields placed [] ordered p = p
 placed_along fields placed (number ∷ numbers) ordered p =
-    let may = and-first (may_come (length fields) (dependencies_at fields) (is_among placed) number) (are_ordered (length fields) (dependencies_at fields) (number ∷ placed) numbers) ordered in
-    placed_along fields (number ∷ placed) numbers (and-second (may_come (length fields) (dependencies_at fields) (is_among placed) number) (are_ordered (length fields) (dependencies_at fields) (number ∷ placed) numbers) ordered)
+    let may = (and_parts (may_come (length fields) (dependencies_at fields) (is_among placed) number) (are_ordered (length fields) (dependencies_at fields) (number ∷ placed) numbers) ordered).0 in
+    placed_along fields (number ∷ placed) numbers ((and_parts (may_come (length fields) (dependencies_at fields) (is_among placed) number) (are_ordered (length fields) (dependencies_at fields) (number ∷ placed) numbers) ordered).1)
     (one_placed fields placed number may p)
 
 length-placed : (placed numbers : List ℕ) → length (placed_after placed numbers) ≡ length placed + length numbers
@@ -87,12 +87,12 @@ length-placed placed [] = omega arith
 length-placed placed (number ∷ numbers) = omega (arith, length-placed (number ∷ placed) numbers)
 
 pub order_along : (fields : List Field) (order : List ℕ) → is_order fields order ≡ true → are_ordered (length fields) (dependencies_at fields) [] order ≡ true
-order_along fields order is = and-second (length order == length fields) (are_ordered (length fields) (dependencies_at fields) [] order) is
+order_along fields order is = (and_parts (length order == length fields) (are_ordered (length fields) (dependencies_at fields) [] order) is).1
 
 pub all_placed : (fields : List Field) (order : List ℕ) → is_order fields order ≡ true → (number : ℕ) → number < length fields → is_among (placed_after [] order) number ≡ true
 all_placed fields order is number within =
     let p = placed_along fields [] order (order_along fields order is) (none_placed (length fields)) in
-    let so_many : length order ≡ length fields = eqb-true _ _ (and-first (length order == length fields) (are_ordered (length fields) (dependencies_at fields) [] order) is) in
+    let so_many : length order ≡ length fields = eqb-true _ _ ((and_parts (length order == length fields) (are_ordered (length fields) (dependencies_at fields) [] order) is).0) in
     let placed : length (placed_after [] order) ≡ 0 + length order = length-placed [] order in
     let long : length p.marks ≡ length fields = p.long in
     let counted : marked_count p.marks ≡ length (placed_after [] order) = p.counted in

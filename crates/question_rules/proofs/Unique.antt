@@ -1,8 +1,7 @@
 -- Marks and settled texts are the only ones that are right.
-use Rattle.std.specs.Prelude.{ℕ, ◌+◌, ◌<◌, ◌≤◌, ◌≡◌, Bool, true, false, ◌&&◌, ◌||◌, List, [], ◌∷◌, length, slice_get, Option, Some, None, refl}
-use Rattle.std.specs.List.{list_all}
-use Rattle.std.proofs.Common.{ap, sym, ◌∙◌, subst, arith, eqb, eqb-true, ◌⊎◌, inl, inr}
-use Rattle.std.proofs.lemmas.Bool.{false≢true}
+use Rattle.std.specs.Prelude.{ℕ, ◌<◌, ◌≡◌, Bool, true, false, List, [], ◌∷◌, length, slice_get, Option, Some, None, refl}
+use Rattle.std.proofs.Common.{sym, ◌∙◌, arith, eqb, inl, inr}
+use Rattle.std.proofs.lemmas.Bool.{false≢true, and_parts}
 use Rattle.std.proofs.lemmas.List.{ext_get_or}
 use Rattle.std.proofs.lemmas.Option.{slice_get_cases}
 use Rattle.field_text.specs.Tables.{NamedTable}
@@ -11,10 +10,9 @@ use Rattle.form_def.specs.declared.field.Field.{Field}
 use Rattle.form_def.specs.declared.form.FormDef.{FormDef}
 use Rattle.form_def.specs.Order.{is_among, is_marked, may_come, are_ordered, dependencies_at}
 use Rattle.form_def.proofs.FieldLemmas.{may_come_within}
-use Rattle.expr_values.proofs.Truths.{and-first, and-second}
 use Rattle.question_rules.specs.Fields.{text_at}
-use Rattle.question_rules.specs.Shown.{is_shown_by, IsShown}
-use Rattle.question_rules.specs.Settled.{text_by, IsSettledWith, IsSettled}
+use Rattle.question_rules.specs.Shown.{IsShown}
+use Rattle.question_rules.specs.Settled.{IsSettled}
 use Rattle.question_rules.specs.Along.{Made}
 use Rattle.question_rules.proofs.Placed.{placed_after, has_before, order_along, all_placed}
 use Rattle.question_rules.proofs.Agreement.{Agree, shown_agrees, text_agrees, calculate_reads}
@@ -40,9 +38,9 @@ agree_along : (form : FormDef) (tables : List NamedTable) (calculation : Field �
     → (placed numbers : List ℕ) → are_ordered (length form.fields) (dependencies_at form.fields) placed numbers ≡ true → Agree (is_among placed) a b → Agree (is_among (placed_after placed numbers)) a b
 agree_along form tables calculation is before a b one other placed [] ordered same = same
 agree_along form tables calculation is before a b one other placed (number ∷ numbers) ordered same =
-    let may = and-first (may_come (length form.fields) (dependencies_at form.fields) (is_among placed) number) (are_ordered (length form.fields) (dependencies_at form.fields) (number ∷ placed) numbers) ordered in
+    let may = (and_parts (may_come (length form.fields) (dependencies_at form.fields) (is_among placed) number) (are_ordered (length form.fields) (dependencies_at form.fields) (number ∷ placed) numbers) ordered).0 in
     agree_along form tables calculation is before a b one other (number ∷ placed) numbers
-    (and-second (may_come (length form.fields) (dependencies_at form.fields) (is_among placed) number) (are_ordered (length form.fields) (dependencies_at form.fields) (number ∷ placed) numbers) ordered)
+    ((and_parts (may_come (length form.fields) (dependencies_at form.fields) (is_among placed) number) (are_ordered (length form.fields) (dependencies_at form.fields) (number ∷ placed) numbers) ordered).1)
     (λ k on. either_placed number placed k (λ j. (is_marked a.marks j ≡ is_marked b.marks j) × (text_at a.texts j ≡ text_at b.texts j))
     (agree_here form tables calculation is before placed a b number one other may same) same (eqb number k) refl on)
 

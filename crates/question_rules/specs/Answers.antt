@@ -1,7 +1,6 @@
 -- Which answers are taken, and what is refused first.
 use Rattle.std.specs.Prelude.{ℕ, ◌+◌, Bool, true, false, not, ◌&&◌, ◌≡◌, nat_lt, if◌then◌else◌, List, [], ◌∷◌, length, chars, slice_get, slice_set, Option, Some, None, encode_utf8, option_map}
 use Rattle.std.specs.List.{list_any}
-use Rattle.std.specs.Str.{bytes_eq}
 use Rattle.field_text.specs.Tables.{NamedTable}
 use Rattle.field_text.specs.Xml.{is_xml_char}
 use Rattle.form_def.specs.declared.field.Field.{Field}
@@ -14,7 +13,7 @@ use Rattle.form_def.specs.Order.{is_marked}
 use Rattle.expr_values.specs.Numbers.{is_whole}
 use Rattle.expr_values.specs.Functions.{is_some_text, is_piece, cut_at_spaces}
 use Rattle.expr_values.specs.Rows.{rows_named}
-use Rattle.expr_values.specs.Evaluation.{surroundings_of, offers}
+use Rattle.expr_values.specs.Evaluation.{surroundings_of, offers, is_offered}
 use Rattle.question_rules.specs.declared.answers.AnswerRefused.{AnswerRefused}
 use Rattle.question_rules.specs.declared.answers.AnswerRefused.TheVariants.{NoQuestion, NotRelevant, ReadOnly, NotWhole, NotAChoice, TooLong, BadChar, NoMemory}
 use Rattle.question_rules.specs.Fields.{holds_or}
@@ -34,15 +33,14 @@ is_question Plain = false
 abbrev pub offered : FormDef → List NamedTable → List (List ℕ) → List Bool → ℕ → Choices → List (List ℕ)
 offered form tables texts marks own Nothing = []
 offered form tables texts marks own (Fixed values) = values
-offered form tables texts marks own (Rows table filter value) = offers (surroundings_of form tables texts marks own) filter value (rows_named form tables table)
-
-abbrev pub is_offered : List (List ℕ) → List ℕ → Bool
-is_offered values choice = list_any (λ value. bytes_eq value choice) values
+offered form tables texts marks own (Rows table filter value) = offers (surroundings_of form tables texts marks own)
+    filter value (rows_named form tables table)
 
 -- pieces of which none is empty, each is offered, and none comes again
 abbrev pub are_chosen : List (List ℕ) → List (List ℕ) → Bool
 are_chosen values [] = true
-are_chosen values (piece ∷ pieces) = is_some_text piece && is_offered values piece && not (list_any (is_piece piece) pieces) && are_chosen values pieces
+are_chosen values (piece ∷ pieces) = is_some_text piece && is_offered values piece
+    && not (list_any (is_piece piece) pieces) && are_chosen values pieces
 
 -- a text that isn't empty, and no number though the kind asks for one
 abbrev pub is_no_number : Kind → List ℕ → Bool
@@ -84,27 +82,34 @@ refusal form tables texts marks number field text =
 
 -- no field with a control has the path
 abbrev pub LacksQuestion : FormDef → List ℕ → Type 0
-LacksQuestion form path = (number : ℕ) (field : Field) → slice_get form.fields number ≡ Some field → field.path ≡ path → is_question field.kind ≡ false
+LacksQuestion form path = (number : ℕ) (field : Field) → slice_get form.fields number ≡ Some field
+    → field.path ≡ path → is_question field.kind ≡ false
 
 -- what is refused first at a field, if anything is, with the marks that are right
 abbrev pub IsRefusal : FormDef → List NamedTable → List (List ℕ) → ℕ → Field → List ℕ → Option AnswerRefused → Type 0
-IsRefusal form tables texts number field text why = (marks : List Bool) × IsShown form tables texts marks × (why ≡ refusal form tables texts marks number field text)
+IsRefusal form tables texts number field text why = (marks : List Bool) × IsShown form tables texts marks
+    × (why ≡ refusal form tables texts marks number field text)
 
 -- the field of the number has a control and the path, and this is what is refused first at it
 abbrev pub Judges : FormDef → List NamedTable → List (List ℕ) → List ℕ → List ℕ → ℕ → Option AnswerRefused → Type 0
-Judges form tables texts path text number why = (field : Field) × (slice_get form.fields number ≡ Some field) × (field.path ≡ path)
+Judges form tables texts path text number why = (field : Field) × (slice_get form.fields number ≡ Some field)
+    × (field.path ≡ path)
     × (is_question field.kind ≡ true) × IsRefusal form tables texts number field text why
 
 abbrev pub Refuses : FormDef → List NamedTable → List (List ℕ) → List ℕ → List ℕ → AnswerRefused → Type 0
 Refuses form tables texts path text NoQuestion = LacksQuestion form path
-Refuses form tables texts path text NotRelevant = (number : ℕ) × Judges form tables texts path text number (Some NotRelevant)
+Refuses form tables texts path text NotRelevant = (number : ℕ)
+    × Judges form tables texts path text number (Some NotRelevant)
 Refuses form tables texts path text ReadOnly = (number : ℕ) × Judges form tables texts path text number (Some ReadOnly)
 Refuses form tables texts path text NotWhole = (number : ℕ) × Judges form tables texts path text number (Some NotWhole)
-Refuses form tables texts path text NotAChoice = (number : ℕ) × Judges form tables texts path text number (Some NotAChoice)
+Refuses form tables texts path text NotAChoice = (number : ℕ)
+    × Judges form tables texts path text number (Some NotAChoice)
 Refuses form tables texts path text TooLong = (number : ℕ) × Judges form tables texts path text number (Some TooLong)
-Refuses form tables texts path text (BadChar at) = (number : ℕ) × Judges form tables texts path text number (Some (BadChar at))
+Refuses form tables texts path text (BadChar at) = (number : ℕ)
+    × Judges form tables texts path text number (Some (BadChar at))
 Refuses form tables texts path text NoMemory = Unit {0}
 
 -- nothing is refused, the text is put there, and the sheet is settled
 abbrev pub Fills : FormDef → List NamedTable → List (List ℕ) → List ℕ → List ℕ → List (List ℕ) → Type 0
-Fills form tables before path text after = (number : ℕ) × Judges form tables before path text number None × IsSettled form tables (slice_set before number text) after
+Fills form tables before path text after = (number : ℕ) × Judges form tables before path text number None
+    × IsSettled form tables (slice_set before number text) after

@@ -1,4 +1,5 @@
--- Settled texts: each calculated field has the text of its value, read with these very texts, and each other field keeps its own.
+-- Settled texts: each calculated field has the text of its value, read with these very texts, and each other field
+-- keeps its own.
 use Rattle.std.specs.Prelude.{ℕ, Bool, ◌≡◌, List, length, slice_get, Option, Some, None}
 use Rattle.field_text.specs.Tables.{NamedTable}
 use Rattle.form_def.specs.declared.expr.Expr.{Expr}
@@ -16,7 +17,8 @@ text_by form tables texts marks number (Some expr) old = calculated_text (value_
 -- these texts, with these marks, are those once they are settled
 abbrev pub IsSettledWith : FormDef → List NamedTable → List (List ℕ) → List (List ℕ) → List Bool → Type 0
 IsSettledWith form tables before after marks = (length after ≡ length before) × IsShown form tables after marks
-    × ((number : ℕ) (field : Field) → slice_get form.fields number ≡ Some field → text_at after number ≡ text_by form tables after marks number field.calculate (text_at before number))
+    × ((number : ℕ) (field : Field) → slice_get form.fields number ≡ Some field
+    → text_at after number ≡ text_by form tables after marks number field.calculate (text_at before number))
 
 abbrev pub IsSettled : FormDef → List NamedTable → List (List ℕ) → List (List ℕ) → Type 0
 IsSettled form tables before after = (marks : List Bool) × IsSettledWith form tables before after marks

@@ -1,18 +1,20 @@
-ghost use Rattle.std.specs.Prelude.{◌≡◌, ◌&&◌, not, Some, true, [], ◌∷◌, IfOk, IfErr, IfSome, IfNone, OnOk, OnErr, length, chars, position, slice_get, slice_set};
+ghost use Rattle.std.specs.Prelude.{◌≡◌, ◌&&◌, not, IfOk, IfErr, OnOk, OnErr, length, chars, position, slice_set};
 ghost use Rattle.std.specs.List.{list_any};
-ghost use Rattle.form_def.specs.declared.field.Field.{Field};
 ghost use Rattle.std.specs.Str.{bytes_eq};
+ghost use Rattle.field_text.specs.Steps.{Gives};
 ghost use Rattle.expr_values.specs.Functions.{cut_at_spaces, is_some_text, is_piece};
-ghost use Rattle.question_rules.specs.Answers.{is_question as asks, offered as values_of, is_offered as among, are_chosen as chosen, is_no_number as no_number, is_no_choice as no_choice, bad_char_from, bad_char as first_bad_char, bad_text as refused_text, refusal as first_refusal, LacksQuestion, IsRefusal, Fills, Refuses};
+ghost use Rattle.expr_values.specs.Evaluation.{is_offered as among};
+ghost use Rattle.question_rules.specs.Answers.{is_question as asks, offered as values_of, are_chosen as chosen, is_no_number as no_number, is_no_choice as no_choice, bad_char_from, bad_text as refused_text, refusal as first_refusal, Fills, Refuses};
+ghost use Rattle.question_rules.specs.Answered.{question as question_of, refusal_at as refusal_of, answered, fault_of};
 ghost use Rattle.question_rules.specs.Along.{settled};
 
-use crate::marks::{holds_or, is_marked, shown_marks};
+use crate::marks::{holds_or, marks_along};
 use crate::settling::{put_text, settled_texts};
 use crate::sheet::{Sheet, copy_texts};
-use expr_values::{Scope, is_selected, is_whole, offers, split_piece};
+use expr_values::{Scope, is_selected, is_whole, offers_choice, split_piece};
 use field_text::xml::is_xml_char;
-use field_text::{Tables, Text};
-use form_def::{Choices, Field, FormDef, Kind};
+use field_text::{NoMemory, Tables, Text};
+use form_def::{Choices, Field, FormDef, Kind, is_marked};
 use std::alloc::Global;
 
 /// The most bytes that an answer has.
@@ -35,7 +37,7 @@ pub enum AnswerRefused {
     /// It has more than 2,000 bytes.
     TooLong,
     /// A document can't hold the character at this byte.
-    BadChar { at: usize },
+    BadChar { at: u64 },
     NoMemory,
 }
 
@@ -66,8 +68,7 @@ fn find_field(fields: &[Field], path: &Text) -> Option<usize>
 
 /// The number of the field with a control that has the path.
 fn question(form: &FormDef, path: &Text) -> Option<usize>
-    ensures found { IfSome result (λ number. (field : Field) × (slice_get form.now.fields number ≡ Some field) × (field.path ≡ path.now) × (asks field.kind ≡ true)) }
-    ensures none { IfNone result (LacksQuestion form.now path.now) }
+    ensures { result ≡ question_of form.now.fields path.now }
 {
     let Some(number) = find_field(form.fields.as_slice(), path) else {
         return None;
@@ -82,50 +83,71 @@ fn question(form: &FormDef, path: &Text) -> Option<usize>
     }
 }
 
-/// The values that a select offers.
-fn offered<T: Tables>(
+/// Whether a select offers the choice.
+fn is_offered<T: Tables>(
     alloc: Global,
     scope: &Scope<'_, T>,
     choices: &Choices,
-) -> Result<Vec<Text>, field_text::NoMemory>
-    ensures { IfOk result (λ values. values.items ≡ values_of scope.now.form.now (T.tables scope.now.tables.now) scope.now.texts.now scope.now.marks.now scope.now.own choices.now) }
+    choice: &[u8],
+) -> Result<bool, NoMemory>
+    ensures { IfOk result (λ offered. offered ≡ among (values_of scope.now.form.now (T.tables scope.now.tables.now)
+        scope.now.texts.now scope.now.marks.now scope.now.own choices.now) choice.now) }
 {
     match choices {
-        Choices::Nothing => Ok(Vec::new(alloc)),
-        Choices::Fixed(values) => copy_texts(alloc, values.as_slice()),
+        Choices::Nothing => Ok(false),
+        Choices::Fixed(values) => Ok(
+            values
+                .as_slice()
+                .iter()
+                .any(|value| value.bytes() == choice),
+        ),
         Choices::Rows {
             table,
             filter,
             value,
-        } => offers(alloc, scope, table, filter, value),
+        } => offers_choice(alloc, scope, table, filter, value, choice),
     }
-}
-
-fn is_offered(values: &[Text], choice: &[u8]) -> bool
-    ensures { result ≡ among values.now choice.now }
-{
-    values.iter().any(|value| value.bytes() == choice)
 }
 
 /// Whether a piece is offered and doesn't come again behind it.
-fn is_chosen(values: &[Text], piece: &[u8], behind: &[u8]) -> bool
-    ensures { result ≡ (is_some_text piece.now && among values.now piece.now && not (list_any (is_piece piece.now) (cut_at_spaces behind.now))) }
+fn is_chosen<T: Tables>(
+    alloc: Global,
+    scope: &Scope<'_, T>,
+    choices: &Choices,
+    piece: &[u8],
+    behind: &[u8],
+) -> Result<bool, NoMemory>
+    ensures { IfOk result (λ is. is ≡ (is_some_text piece.now && among (values_of scope.now.form.now
+        (T.tables scope.now.tables.now) scope.now.texts.now scope.now.marks.now scope.now.own choices.now) piece.now
+        && not (list_any (is_piece piece.now) (cut_at_spaces behind.now)))) }
 {
-    !piece.is_empty() && is_offered(values, piece) && !is_selected(behind, piece)
+    if piece.is_empty() || is_selected(behind, piece) {
+        return Ok(false);
+    }
+    is_offered(alloc, scope, choices, piece)
 }
 
 /// Whether each piece of a text is offered, and none comes twice.
-fn are_chosen(values: &[Text], text: &[u8]) -> bool
-    ensures { result ≡ chosen values.now (cut_at_spaces text.now) }
+fn are_chosen<T: Tables>(
+    alloc: Global,
+    scope: &Scope<'_, T>,
+    choices: &Choices,
+    text: &[u8],
+) -> Result<bool, NoMemory>
+    ensures { IfOk result (λ are. are ≡ chosen (values_of scope.now.form.now (T.tables scope.now.tables.now)
+        scope.now.texts.now scope.now.marks.now scope.now.own choices.now) (cut_at_spaces text.now)) }
 {
     let mut rest = text;
     while let Some((piece, behind)) = split_piece(rest) {
-        if !is_chosen(values, piece, behind) {
-            return false;
+        if !is_chosen(alloc, scope, choices, piece, behind)? {
+            return Ok(false);
         }
         rest = behind;
     }
-    !rest.is_empty() && is_offered(values, rest)
+    if rest.is_empty() {
+        return Ok(false);
+    }
+    is_offered(alloc, scope, choices, rest)
 }
 
 /// Whether the kind asks for a number, and the text is none.
@@ -144,46 +166,45 @@ fn is_no_choice<T: Tables>(
     scope: &Scope<'_, T>,
     field: &Field,
     text: &[u8],
-) -> Result<bool, field_text::NoMemory>
-    ensures { IfOk result (λ none. none ≡ no_choice field.now.kind (values_of scope.now.form.now (T.tables scope.now.tables.now) scope.now.texts.now scope.now.marks.now scope.now.own field.now.choices) text.now) }
+) -> Result<bool, NoMemory>
+    ensures { IfOk result (λ none. none ≡ no_choice field.now.kind (values_of scope.now.form.now
+        (T.tables scope.now.tables.now) scope.now.texts.now scope.now.marks.now scope.now.own field.now.choices)
+        text.now) }
 {
+    if text.is_empty() {
+        return Ok(false);
+    }
     match field.kind {
-        Kind::One => {
-            let values = offered(alloc, scope, &field.choices)?;
-            Ok(!text.is_empty() && !is_offered(values.as_slice(), text))
-        }
-        Kind::Many => {
-            let values = offered(alloc, scope, &field.choices)?;
-            Ok(!text.is_empty() && !are_chosen(values.as_slice(), text))
-        }
+        Kind::One => Ok(!is_offered(alloc, scope, &field.choices, text)?),
+        Kind::Many => Ok(!are_chosen(alloc, scope, &field.choices, text)?),
         _ => Ok(false),
     }
 }
 
 /// Where the first character stands that a document can't hold.
-fn bad_char_in(chars: &[char]) -> Option<usize>
+fn bad_char_in(chars: &[char]) -> Option<u64>
     ensures { result ≡ bad_char_from 0 chars.now }
 {
-    let mut at = 0;
+    let mut at: u64 = 0;
     let mut rest = chars;
     while let Some((c, others)) = rest.split_first() {
         if !is_xml_char(*c) {
             return Some(at);
         }
-        at += c.len_utf8();
+        at += c.len_utf8() as u64;
         rest = others;
     }
     None
 }
 
-fn characters(alloc: Global, text: &str) -> Result<Vec<char>, field_text::NoMemory>
+fn characters(alloc: Global, text: &str) -> Result<Vec<char>, NoMemory>
     ensures { IfOk result (λ characters. characters.items ≡ chars text.now) }
 {
     Ok(text.chars().collect(alloc)?)
 }
 
 /// What is wrong with a text, whatever the field.
-fn bad_text(alloc: Global, text: &Text) -> Result<Option<AnswerRefused>, field_text::NoMemory>
+fn bad_text(alloc: Global, text: &Text) -> Result<Option<AnswerRefused>, NoMemory>
     ensures { IfOk result (λ why. why ≡ refused_text text.now) }
 {
     if text.bytes().len() > LONGEST {
@@ -202,8 +223,9 @@ fn refusal<T: Tables>(
     scope: &Scope<'_, T>,
     field: &Field,
     text: &Text,
-) -> Result<Option<AnswerRefused>, field_text::NoMemory>
-    ensures { IfOk result (λ why. why ≡ first_refusal scope.now.form.now (T.tables scope.now.tables.now) scope.now.texts.now scope.now.marks.now scope.now.own field.now text.now) }
+) -> Result<Option<AnswerRefused>, NoMemory>
+    ensures { IfOk result (λ why. why ≡ first_refusal scope.now.form.now (T.tables scope.now.tables.now)
+        scope.now.texts.now scope.now.marks.now scope.now.own field.now text.now) }
 {
     if !is_marked(scope.marks, scope.own) {
         return Ok(Some(AnswerRefused::NotRelevant));
@@ -221,24 +243,24 @@ fn refusal<T: Tables>(
 }
 
 /// What is refused first, if the text is the answer to the field of a number.
+#[tactic(auto, unfolding(crate::specs::Answered::refusal_at))]
 fn refusal_at<T: Tables>(
     alloc: Global,
     form: &FormDef,
-    sheet: &Sheet,
+    texts: &[Text],
     tables: &T,
     number: usize,
     text: &Text,
-) -> Result<Option<AnswerRefused>, field_text::NoMemory>
-    requires { length sheet.now ≡ length form.now.fields }
-    ensures { IfOk result (λ why. (field : Field) → slice_get form.now.fields number ≡ Some field → IsRefusal form.now (T.tables tables.now) sheet.now number field text.now why) }
+) -> Result<Option<AnswerRefused>, NoMemory>
+    ensures { IfOk result (λ why. why ≡ refusal_of form.now (T.tables tables.now) texts.now number text.now) }
 {
-    let marks = shown_marks(alloc, form, sheet, tables)?;
     let Some(field) = form.fields.get(number) else {
         return Ok(None);
     };
+    let marks = marks_along(alloc, form, tables, texts)?;
     let scope = Scope {
         form,
-        texts: sheet.texts(),
+        texts,
         marks: marks.as_slice(),
         tables,
         own: number as u64,
@@ -246,20 +268,42 @@ fn refusal_at<T: Tables>(
     refusal(alloc, &scope, field, text)
 }
 
-/// The texts of a sheet once a field has this one, settled.
+/// The texts once a field has this one, settled.
 fn filled_texts<T: Tables>(
     alloc: Global,
     form: &FormDef,
-    sheet: &Sheet,
+    texts: &[Text],
     tables: &T,
     number: usize,
     text: &Text,
-) -> Result<Vec<Text>, field_text::NoMemory>
-    ensures { IfOk result (λ texts. texts.items ≡ (settled form.now (T.tables tables.now) (slice_set sheet.now number text.now)).texts) }
+) -> Result<Vec<Text>, NoMemory>
+    ensures { IfOk result (λ after. after.items
+        ≡ (settled form.now (T.tables tables.now) (slice_set texts.now number text.now)).texts) }
 {
-    let mut texts = copy_texts(alloc, sheet.texts())?;
-    put_text(&mut texts, number as u64, text.copy(alloc)?);
-    settled_texts(alloc, form, tables, texts)
+    let mut after = copy_texts(alloc, texts)?;
+    put_text(&mut after, number as u64, text.copy(alloc)?);
+    settled_texts(alloc, form, tables, after)
+}
+
+/// The settled texts once the question of a path has this answer.
+fn answer<T: Tables>(
+    alloc: Global,
+    form: &FormDef,
+    texts: &[Text],
+    tables: &T,
+    path: &Text,
+    value: &Text,
+) -> Result<Vec<Text>, AnswerRefused>
+    ensures { Gives fault_of (λ after. after.items) result
+        (answered form.now (T.tables tables.now) texts.now path.now value.now) }
+{
+    let Some(number) = question(form, path) else {
+        return Err(AnswerRefused::NoQuestion);
+    };
+    if let Some(why) = refusal_at(alloc, form, texts, tables, number, value)? {
+        return Err(why);
+    }
+    Ok(filled_texts(alloc, form, texts, tables, number, value)?)
 }
 
 /// Stores an answer to the question of a path and settles the sheet.
@@ -272,17 +316,13 @@ pub fn fill<T: Tables>(
     value: &Text,
 ) -> Result<(), AnswerRefused>
     requires { length sheet.old ≡ length form.now.fields }
+    ensures answered { Gives fault_of (λ _. sheet.new) result
+        (answered form.now (T.tables tables.now) sheet.old path.now value.now) }
     ensures filled { OnOk result (Fills form.now (T.tables tables.now) sheet.old path.now value.now sheet.new) }
     ensures refused { IfErr result (λ why. Refuses form.now (T.tables tables.now) sheet.old path.now value.now why) }
     ensures unchanged { OnErr result (sheet.new ≡ sheet.old) }
 {
-    let Some(number) = question(form, path) else {
-        return Err(AnswerRefused::NoQuestion);
-    };
-    if let Some(why) = refusal_at(alloc, form, sheet, tables, number, value)? {
-        return Err(why);
-    }
-    let texts = filled_texts(alloc, form, sheet, tables, number, value)?;
+    let texts = answer(alloc, form, sheet.texts(), tables, path, value)?;
     *sheet = Sheet::from_texts(texts);
     Ok(())
 }

@@ -1,13 +1,13 @@
 ghost use Rattle.std.specs.Prelude.{◌≡◌, IfOk, length, not};
 ghost use Rattle.expr_values.specs.Functions.{is_some_text};
 ghost use Rattle.question_rules.specs.Fields.{text_at};
-ghost use Rattle.question_rules.specs.Faults.{fault_at as cause_of, fault_from, IsFirstFault};
+ghost use Rattle.question_rules.specs.Faults.{fault_at as cause_of, fault_from, first_fault_of, IsFirstFault};
 
-use crate::marks::{holds_or, is_marked, shown_marks};
+use crate::marks::{holds_or, shown_marks};
 use crate::sheet::Sheet;
 use expr_values::Scope;
 use field_text::{NoMemory, Tables, Text};
-use form_def::{Field, FormDef};
+use form_def::{Field, FormDef, is_marked};
 use std::alloc::Global;
 
 /// What a field lacks.
@@ -41,7 +41,9 @@ fn cause_at<T: Tables>(
     scope: &Scope<'_, T>,
     field: &Field,
 ) -> Result<Option<Cause>, NoMemory>
-    ensures { IfOk result (λ cause. cause ≡ cause_of scope.now.form.now (T.tables scope.now.tables.now) scope.now.texts.now scope.now.marks.now scope.now.own field.now) }
+    ensures { IfOk result (λ cause. cause
+        ≡ cause_of scope.now.form.now (T.tables scope.now.tables.now) scope.now.texts.now scope.now.marks.now
+        scope.now.own field.now) }
 {
     if !is_marked(scope.marks, scope.own) {
         return Ok(None);
@@ -66,7 +68,8 @@ fn first_fault_in<T: Tables>(
     texts: &[Text],
     marks: &[bool],
 ) -> Result<Option<Fault>, NoMemory>
-    ensures { IfOk result (λ fault. fault ≡ fault_from form.now (T.tables tables.now) texts.now marks.now 0 form.now.fields) }
+    ensures { IfOk result (λ fault. fault
+        ≡ fault_from form.now (T.tables tables.now) texts.now marks.now 0 form.now.fields) }
 {
     let mut own = 0;
     let mut rest = form.fields.as_slice();
@@ -96,7 +99,8 @@ pub fn first_fault<T: Tables>(
     tables: &T,
 ) -> Result<Option<Fault>, NoMemory>
     requires { length sheet.now ≡ length form.now.fields }
-    ensures { IfOk result (λ fault. IsFirstFault form.now (T.tables tables.now) sheet.now fault) }
+    ensures first { IfOk result (λ fault. IsFirstFault form.now (T.tables tables.now) sheet.now fault) }
+    ensures fault { IfOk result (λ fault. fault ≡ first_fault_of form.now (T.tables tables.now) sheet.now) }
 {
     let marks = shown_marks(alloc, form, sheet, tables)?;
     first_fault_in(alloc, form, tables, sheet.texts(), marks.as_slice())

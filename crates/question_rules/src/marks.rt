@@ -10,15 +10,8 @@ ghost use Rattle.question_rules.specs.Along.{mark_at as mark_of, marked_along, u
 use crate::sheet::Sheet;
 use expr_values::{Row, Scope, holds, read_text};
 use field_text::{NoMemory, Tables, Text};
-use form_def::{Expr, FormDef};
+use form_def::{Expr, FormDef, is_marked};
 use std::alloc::Global;
-
-/// Whether the field of a number is marked.
-pub fn is_marked(marks: &[bool], number: u64) -> bool
-    ensures { result ≡ marked marks.now number }
-{
-    marks.get(number as usize).copied().unwrap_or(false)
-}
 
 /// Marks the field of a number, if there is one, or takes its mark away.
 pub fn put_mark(marks: &mut [bool], number: u64, mark: bool)
@@ -36,7 +29,9 @@ pub fn holds_or<T: Tables>(
     absent: bool,
     expr: &Option<Expr>,
 ) -> Result<bool, NoMemory>
-    ensures { IfOk result (λ holds. holds ≡ expression_holds_or absent scope.now.form.now (T.tables scope.now.tables.now) scope.now.texts.now scope.now.marks.now scope.now.own expr.now) }
+    ensures { IfOk result (λ holds. holds
+        ≡ expression_holds_or absent scope.now.form.now (T.tables scope.now.tables.now) scope.now.texts.now
+        scope.now.marks.now scope.now.own expr.now) }
 {
     match expr {
         Some(expr) => holds(alloc, scope, &Row::Absent, expr),
@@ -46,7 +41,8 @@ pub fn holds_or<T: Tables>(
 
 /// The parent of the field of a number.
 fn parent_at(form: &FormDef, number: u64) -> Option<u64>
-    ensures { result ≡ option_map_or (λ field. parent_of form.now.fields field.path) (slice_get form.now.fields number) None }
+    ensures { result ≡ option_map_or (λ field. parent_of form.now.fields field.path)
+        (slice_get form.now.fields number) None }
 {
     form.parents.get(number as usize).copied().unwrap_or(None)
 }
@@ -87,7 +83,8 @@ pub fn mark_at<T: Tables>(
     holds_or(alloc, &scope, true, &field.relevant)
 }
 
-fn marks_along<T: Tables>(
+/// Of each field whether it is shown, with these texts.
+pub fn marks_along<T: Tables>(
     alloc: Global,
     form: &FormDef,
     tables: &T,
@@ -147,7 +144,8 @@ pub fn read_field<T: Tables>(
     requires sheet { length sheet.now ≡ length form.now.fields }
     requires within { field < length form.now.fields }
     ensures reads { IfOk result (λ text. ReadsAs form.now (T.tables tables.now) sheet.now field text) }
-    ensures text { IfOk result (λ text. text ≡ text_read sheet.now (marks_of form.now (T.tables tables.now) sheet.now) field) }
+    ensures text { IfOk result (λ text. text
+        ≡ text_read sheet.now (marks_of form.now (T.tables tables.now) sheet.now) field) }
 {
     let marks = shown_marks(alloc, form, sheet, tables)?;
     read_text(alloc, sheet.texts(), marks.as_slice(), field)

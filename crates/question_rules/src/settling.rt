@@ -19,7 +19,8 @@ fn calculated<T: Tables>(
     marks: &[bool],
     number: u64,
 ) -> Result<Option<Text>, NoMemory>
-    ensures { IfOk result (λ text. unwrap_or text (text_at texts.now number) ≡ text_made form.now (T.tables tables.now) (λ field. field.calculate) texts.now marks.now number) }
+    ensures { IfOk result (λ text. unwrap_or text (text_at texts.now number)
+        ≡ text_made form.now (T.tables tables.now) (λ field. field.calculate) texts.now marks.now number) }
 {
     let Some(field) = form.fields.get(number as usize) else {
         return Ok(None);
@@ -64,8 +65,11 @@ fn settle_field<T: Tables>(
     marks: &mut Vec<bool>,
     number: u64,
 ) -> Result<(), NoMemory>
-    ensures marks { OnOk result (marks.new.items ≡ marks_with form.now (T.tables tables.now) texts.old.items marks.old.items number) }
-    ensures texts { OnOk result (texts.new.items ≡ texts_with form.now (T.tables tables.now) (λ field. field.calculate) texts.old.items (marks_with form.now (T.tables tables.now) texts.old.items marks.old.items number) number) }
+    ensures marks { OnOk result (marks.new.items
+        ≡ marks_with form.now (T.tables tables.now) texts.old.items marks.old.items number) }
+    ensures texts { OnOk result (texts.new.items
+        ≡ texts_with form.now (T.tables tables.now) (λ field. field.calculate) texts.old.items
+        (marks_with form.now (T.tables tables.now) texts.old.items marks.old.items number) number) }
 {
     let mark = mark_at(
         alloc,

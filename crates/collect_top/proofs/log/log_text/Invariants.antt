@@ -1,5 +1,5 @@
 use Rattle.std.proofs.Common.{◌≡◌, take}
-use Rattle.device_core.specs.Trail.{entries_of}
+use Rattle.device_rules.specs.Trail.{entries_of}
 use Rattle.collect_top.specs.Log.{log_text}
 use Rattle.collect_top.proofs.log.log_text.Given as goal
 

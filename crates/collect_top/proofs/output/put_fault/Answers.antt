@@ -1,7 +1,7 @@
 use Rattle.std.proofs.Common.{◌++◌, codes, Err}
 use Rattle.std.proofs.lemmas.Result.{err_from_is_err_and}
 use Rattle.collect_top.specs.Stop.{status_text, place_text}
-use Rattle.collect_top.proofs.Gains.{puts_then, gained_then, cut_longer}
+use Rattle.line_io.proofs.Gains.{puts_then, gained_then, cut_longer}
 use Rattle.collect_top.proofs.output.put_fault.Goals as goal
 
 pub returns-in_err-put_status-clause-puts : goal.returns-in_err-put_status-clause-puts

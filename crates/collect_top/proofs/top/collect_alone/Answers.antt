@@ -1,18 +1,21 @@
-use Rattle.collect_top.proofs.Causes.{crash_prefix, printed_answers, causes_of_status, serial_run}
+use Rattle.std.proofs.Common.{refl, sym}
+use Rattle.collect_top.proofs.Headlines.{headline, headline_of_usage}
 use Rattle.collect_top.proofs.top.collect_alone.Goals as goal
 
-pub returns-clause-serial_run : goal.returns-clause-serial_run
-returns-clause-serial_run g c =
-    serial_run _ _ _ _ _ _ _ _ _ _ _ _ _ _ _ _ _ _ c.run-disk.ensures c.finish-status.ensures.line c.finish-status.ensures.status
+pub returns-in_default-clause-headline : goal.returns-in_default-clause-headline
+returns-in_default-clause-headline g c =
+    let d = g.D.Disk in
+    rw (sym c.work_of.ensures, c.in_default.is) (headline_of_usage _ d.content d.faults _
+    (record { left = g.So.Source.left c.args.source.now; held = g.Si.Sink.held c.args.sink.now; source_faults = g.So.Source.faults c.args.source.now; sink_faults = g.Si.Sink.faults c.args.sink.now })
+    (record { left = g.So.Source.left c.args.source.now; held = g.Si.Sink.held c.finish-status.new.sink; source_faults = g.So.Source.faults c.args.source.now; sink_faults = g.Si.Sink.faults c.finish-status.new.sink })
+    _ _ c.no_trail.ensures.start c.no_trail.ensures.entries c.finish-status.ensures.status
+    (c.finish-status.ensures.stop (g.So.Source.left c.args.source.now) (g.So.Source.faults c.args.source.now)))
 
-pub returns-clause-printed_answers : goal.returns-clause-printed_answers
-returns-clause-printed_answers g c =
-    printed_answers _ _ _ _ _ _ _ _ _ _ _ _ _ _ _ _ _ _ c.run-disk.ensures c.finish-status.ensures.line c.finish-status.ensures.status
-
-pub returns-clause-status : goal.returns-clause-status
-returns-clause-status g c =
-    causes_of_status _ _ _ _ _ _ _ _ _ _ _ _ _ _ _ _ _ _ c.run-disk.ensures c.finish-status.ensures.line c.finish-status.ensures.status
-
-pub returns-clause-crash : goal.returns-clause-crash
-returns-clause-crash g c =
-    crash_prefix _ _ _ _ _ _ _ _ _ _ _ _ _ _ _ _ _ _ c.run-disk.ensures c.finish-status.ensures.line c.finish-status.ensures.status
+pub returns-clause-headline : goal.returns-clause-headline
+returns-clause-headline g c =
+    let d = g.D.Disk in
+    rw (sym c.work_of.ensures, c.in-Some.is) (headline _ d.content d.faults c.in-Some.work _ _
+    (record { left = g.So.Source.left c.args.source.now; held = g.Si.Sink.held c.args.sink.now; source_faults = g.So.Source.faults c.args.source.now; sink_faults = g.Si.Sink.faults c.args.sink.now })
+    (record { left = g.So.Source.left c.run-disk.new.source; held = g.Si.Sink.held c.run-disk.new.sink; source_faults = g.So.Source.faults c.run-disk.new.source; sink_faults = g.Si.Sink.faults c.run-disk.new.sink })
+    (record { left = g.So.Source.left c.run-disk.new.source; held = g.Si.Sink.held c.finish-status-2.new.sink; source_faults = g.So.Source.faults c.run-disk.new.source; sink_faults = g.Si.Sink.faults c.finish-status-2.new.sink })
+    _ _ c.run-disk.ensures (c.finish-status-2.ensures.stop (g.So.Source.left c.run-disk.new.source) (g.So.Source.faults c.run-disk.new.source)) _ c.finish-status-2.ensures.status)

@@ -1,11 +1,12 @@
-use Rattle.std.proofs.Common.{rules, sym, refl, subst}
-use Rattle.device_journal.specs.Moments.{LeavesFrom, IsAsRead, synced}
-use Rattle.device_journal.specs.Journal.{journal_length, journal_opened}
+use Rattle.std.proofs.Common.{◌≡◌, length, rules, arith, sym, refl, subst}
+use Rattle.device_journal.specs.Moments.{LeavesFrom, IsAsRead, synced, synced_at}
+use Rattle.device_journal.specs.Journal.{journal_disk, journal_length, journal_opened}
 use Rattle.device_core.specs.Device.{shown}
 use Rattle.device_core.specs.Replay.{IsSpelledBy}
-use Rattle.device_core.specs.Trail.{entries_of}
+use Rattle.device_rules.specs.Trail.{entries_of}
 use Rattle.device_core.proofs.Opening.{journal_fault}
 use Rattle.device_core.proofs.Appending.{kept_loaded}
+use Rattle.device_core.proofs.Crashes.{leaves_found, length-entries}
 use Rattle.device_core.proofs.device.load.Goals as goal
 use Rattle.std.specs.Prelude.{None}
 
@@ -29,4 +30,15 @@ pub returns-clause-any_moment_err : goal.returns-clause-any_moment_err
 returns-clause-any_moment_err g c =
     let d = g.D.Disk in
     let journal = c.in-Ok.opened.0 in
-    synced (journal_opened journal) (subst (λ n. LeavesFrom d.clock d.since c.args.disk n (journal_opened journal) (IsAsRead (d.content c.args.disk))) (sym c.into_disk.ensures) c.in-Ok.ensures.as_read)
+    let from = subst (λ t. LeavesFrom d.clock d.since c.args.disk (journal_disk journal) t (IsAsRead (d.content c.args.disk))) c.in-Ok.ensures.moment c.in-Ok.ensures.as_read in
+    synced (subst (λ n. LeavesFrom d.clock d.since c.args.disk n (synced_at d.clock c.args.disk) (IsAsRead (d.content c.args.disk))) (sym c.into_disk.ensures) from)
+
+pub returns-in-Ok-recover-clause-any_moment : goal.returns-in-Ok-recover-clause-any_moment
+returns-in-Ok-recover-clause-any_moment g c =
+    let d = g.D.Disk in
+    let journal = c.in-Ok.opened.0 in
+    let payloads = c.in-Ok.opened.1 in
+    let entries = c.in-Ok-recover.entries.items in
+    let count : c.len-found.result ≡ length entries = search rules in
+    leaves_found d.clock d.since c.args.disk (journal_disk journal) (journal_opened journal) payloads (entries_of entries) c.len-found.result
+    (subst (λ l. IsSpelledBy l (entries_of entries)) c.as_slice.ensures c.in-Ok-recover.ensures.spelled) (omega (arith, count, length-entries entries)) c.in-Ok.ensures.any_moment

@@ -1,6 +1,6 @@
-use Rattle.std.proofs.Common.{ℕ, List, ◌∙◌, subst}
+use Rattle.std.proofs.Common.{◌≡◌, ℕ, List, ◌∙◌, subst}
 use Rattle.std.specs.Prelude.{Option}
-use Rattle.device_journal.specs.Moments.{LeavesFrom, IsAsRead, unsynced}
+use Rattle.device_journal.specs.Moments.{LeavesFrom, IsAsRead, unsynced, synced_at}
 use Rattle.device_journal.specs.Opened.{IsOpened}
 use Rattle.device_journal.proofs.Appended.{if_ok_map, on_err_any}
 use Rattle.device_journal.proofs.Openings.{from_first, failed_after}
@@ -14,10 +14,14 @@ returns-in-Ok-clause-any_moment g c =
     (λ f is. from_first d.clock d.may d.since d.content old c.sync.new.self c.sync.ensures.images c.sync.ensures.content c.find.new.disk f.opened is c.find.ensures.any_moment)
     c.find.ensures.moment
 
+pub returns-in-Ok-clause-moment : goal.returns-in-Ok-clause-moment
+returns-in-Ok-clause-moment g c =
+    if_ok_map c.find.result _ (λ f. f.opened ≡ synced_at g.D.Disk.clock c.args.disk.now) (λ f is. is ∙ c.in-Ok.ensures.next) c.find.ensures.moment
+
 pub returns-in-Ok-clause-any_moment_err : goal.returns-in-Ok-clause-any_moment_err
 returns-in-Ok-clause-any_moment_err g c =
     let d = g.D.Disk in
-    on_err_any c.find.result _ (failed_after d.clock d.may d.since d.content c.args.disk.now c.sync.new.self c.sync.ensures.images c.sync.ensures.content c.find.new.disk c.find.ensures.any_moment)
+    on_err_any c.find.result _ (failed_after d.clock d.may d.since d.content c.args.disk.now c.sync.new.self c.sync.ensures.images c.sync.ensures.content c.find.new.disk c.in-Ok.ensures.next c.find.ensures.any_moment)
 
 pub returns-in-Ok-clause-opened : goal.returns-in-Ok-clause-opened
 returns-in-Ok-clause-opened g c =

@@ -1,8 +1,8 @@
-use Rattle.std.proofs.Common.{◌≡◌, ◌<◌, ◌≤◌, ◌^◌, ◌-◌, sym, ◌∙◌, ap, subst, ℕ, arith, get_or, length, take, pos}
+use Rattle.std.proofs.Common.{◌≡◌, ◌<◌, ◌^◌, ◌-◌, ap, arith, get_or, take}
 use Rattle.std.proofs.lemmas.Int.{ints}
 use Rattle.std.proofs.lemmas.List.{take_all}
-use Rattle.expr_values.specs.Numbers.{digits_value, is_digit}
-use Rattle.expr_values.proofs.DigitLemmas.{small_front, value_more, all_at, are_all, digit_low}
+use Rattle.expr_values.specs.Numbers.{digits_value}
+use Rattle.expr_values.proofs.DigitLemmas.{small_front}
 use Rattle.expr_values.proofs.digits.digits_value.Goals as goal
 
 pub overflow_mul-value : goal.overflow_mul-value

@@ -1,17 +1,16 @@
-use Rattle.std.proofs.Common.{◌≡◌, ◌<◌, true, false, ap, sym, ◌∙◌, find, subst}
+use Rattle.std.proofs.Common.{◌<◌, ap, ◌∙◌, find, subst}
 use Rattle.std.specs.Str.{bytes_eq}
-use Rattle.field_text.specs.Tables.{row_count, cell_text}
-use Rattle.expr_values.specs.Values.{truth_of}
-use Rattle.expr_values.specs.Seen.{columns_seen}
-use Rattle.expr_values.specs.Evaluation.{value_in, surroundings_of}
+use Rattle.field_text.specs.Tables.{row_count}
+use Rattle.expr_values.specs.Seen.{columns_seen, surroundings_seen}
+use Rattle.expr_values.specs.Evaluation.{value_in}
 use Rattle.expr_values.proofs.ValueLemmas.{item_is, value_in-Call}
-use Rattle.expr_values.proofs.LookUpLemmas.{found_outer, passed_outer, rows_inner, rows_outer, rows_not_inner}
+use Rattle.expr_values.proofs.LookUpLemmas.{found_outer, passed_outer, rows_inner, rows_outer}
 use Rattle.expr_values.proofs.evaluation.+evaluation.Goals as goal
 
 pub evaluate-returns-in_ok-look_up-in-Item : goal.evaluate-returns-in_ok-look_up-in-Item
 evaluate-returns-in_ok-look_up-in-Item g t c =
     let tables = g.T.Tables.tables c.args.scope.now.tables.now in
-    let s = surroundings_of c.args.scope.now.form.now tables c.args.scope.now.texts.now c.args.scope.now.marks.now c.args.scope.now.own in
+    let s = surroundings_seen tables c.args.scope.now in
     item_is s c.in-Item.table c.in-Item.column c.in-Item.filter c.get.result.now (columns_seen tables c.args.row.now) c.args.expr.now c.in_ok-look_up-in-Item.field-0
     c.in-Item.is c.get.ensures c.in_ok-look_up-in-Item.ensures
 
@@ -32,13 +31,13 @@ look_up_named-returns-in-Some g t c =
 pub look_up_outer-returns-then-branch : goal.look_up_outer-returns-then-branch
 look_up_outer-returns-then-branch g t c =
     let tables = g.T.Tables.tables c.args.scope.now.tables.now in
-    let f = value_in (surroundings_of c.args.scope.now.form.now tables c.args.scope.now.texts.now c.args.scope.now.marks.now c.args.scope.now.own) c.args.filter.now in
+    let f = value_in (surroundings_seen tables c.args.scope.now) c.args.filter.now in
     let within : c.loop-number.number < row_count tables c.args.list.now = subst (λ n. c.loop-number.number < n) c.rows-number-end.ensures c.loop-number-test.true in
     rw (← found_outer f c.args.column.now tables c.args.list.now c.loop-number.number c.in_ok-holds.field-0 _ within c.in_ok-holds.ensures c.if-branch.true c.loop-number.invariant) c.cell.ensures
 
 pub look_up_outer-loop-number-preserved : goal.look_up_outer-loop-number-preserved
 look_up_outer-loop-number-preserved g t c =
     let tables = g.T.Tables.tables c.args.scope.now.tables.now in
-    let f = value_in (surroundings_of c.args.scope.now.form.now tables c.args.scope.now.texts.now c.args.scope.now.marks.now c.args.scope.now.own) c.args.filter.now in
+    let f = value_in (surroundings_seen tables c.args.scope.now) c.args.filter.now in
     let within : c.loop-number.number < row_count tables c.args.list.now = subst (λ n. c.loop-number.number < n) c.rows-number-end.ensures c.loop-number-test.true in
     passed_outer f c.args.column.now tables c.args.list.now c.loop-number.number c.in_ok-holds.field-0 _ within c.in_ok-holds.ensures c.if-branch.false c.loop-number.invariant

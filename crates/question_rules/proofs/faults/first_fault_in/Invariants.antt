@@ -1,4 +1,4 @@
-use Rattle.std.proofs.Common.{◌≡◌, ◌≤◌, ◌+◌, length}
+use Rattle.std.proofs.Common.{◌≡◌, ◌+◌, length}
 use Rattle.question_rules.specs.Faults.{fault_from}
 use Rattle.question_rules.proofs.faults.first_fault_in.Given as goal
 

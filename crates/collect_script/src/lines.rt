@@ -1,0 +1,92 @@
+// The lines of a script, one after another.
+ghost use Rattle.std.specs.Prelude.{◌≡◌, [], IfErr, IfOk, OnOk, option_map};
+ghost use Rattle.device_rules.specs.Caller.{CallerView};
+ghost use Rattle.entry_form.specs.declared.hand.Hand.{Hand};
+ghost use Rattle.line_io.specs.Reader.{GivesNext, IsKept, StopsReading};
+ghost use Rattle.line_io.specs.declared.stop.ReadStop.{ReadStop};
+ghost use Rattle.collect_script.specs.Answering.{AnswersLines, LineAnswered, LineStops, stop_of};
+ghost use Rattle.collect_script.specs.Script.{is_quit};
+ghost use Rattle.collect_script.specs.Transcript.{of_script};
+
+use crate::ScriptStop;
+use crate::answer::line_text;
+use collect_text::{Line, read_line};
+use device_rules::Caller;
+use field_io::{Failed, Sink, Source};
+use line_io::{LineReader, ReadStop, put_all};
+use std::alloc::Global;
+
+fn stop_of(stop: ReadStop) -> ScriptStop
+    ensures { result ≡ stop_of stop }
+{
+    match stop {
+        ReadStop::ReadFault => ScriptStop::ReadFault,
+        ReadStop::LineTooLong => ScriptStop::LineTooLong,
+        ReadStop::ScriptTooLong => ScriptStop::ScriptTooLong,
+        ReadStop::NoMemory => ScriptStop::NoMemory,
+    }
+}
+
+// Answers one line of a script.
+fn answer_line<K: Caller, Si: Sink>(
+    alloc: Global,
+    line: Line,
+    caller: &mut K,
+    sink: &mut Si,
+) -> Result<(), ScriptStop>
+    requires { (K.seen caller.old).hand ≡ Hand.Script }
+    ensures answered { OnOk result (LineAnswered (K.seen caller.old) (K.seen caller.new) line (Si.held sink.old) (Si.held sink.new) (Si.faults sink.old) (Si.faults sink.new)) }
+    ensures stopped { IfErr result (LineStops (K.seen caller.old) (K.seen caller.new) line (Si.held sink.old) (Si.held sink.new) (Si.faults sink.old) (Si.faults sink.new)) }
+    ensures leads { K.leads caller.old caller.new }
+{
+    let text = match line_text(alloc, line, caller) {
+        Ok(text) => text,
+        Err(stop) => return Err(stop),
+    };
+    match put_all(sink, &text) {
+        Ok(()) => Ok(()),
+        Err(Failed) => Err(ScriptStop::WriteFault),
+    }
+}
+
+fn is_quit(line: &Line) -> bool
+    ensures { result ≡ is_quit line.now }
+{
+    matches!(line, Line::Quit)
+}
+
+/// Answers the lines that a source gives, one after another, up to `quit` or the end of the source. Each is answered before the
+/// next is asked for.
+pub fn answer_lines<K: Caller, So: Source, Si: Sink>(
+    alloc: Global,
+    source: &mut So,
+    caller: &mut K,
+    sink: &mut Si,
+) -> Result<(), ScriptStop>
+    requires hand { (K.seen caller.old).hand ≡ Hand.Script }
+    requires none_left { of_script (K.seen caller.old).rest ≡ [] }
+    ensures { AnswersLines K.seen K.leads caller.old caller.new
+        (record { left = So.left source.old; held = Si.held sink.old; source_faults = So.faults source.old; sink_faults = Si.faults sink.old })
+        (record { left = So.left source.new; held = Si.held sink.new; source_faults = So.faults source.new; sink_faults = Si.faults sink.new }) result }
+{
+    let mut reader = LineReader::new(alloc);
+    'lines: loop {
+        let raw = match reader.next_line(alloc, source) {
+            Ok(Some(raw)) => raw,
+            Ok(None) => return Ok(()),
+            Err(stop) => return Err(stop_of(stop)),
+        };
+        let line = match read_line(alloc, &raw) {
+            Ok(line) => line,
+            Err(_) => return Err(ScriptStop::NoMemory),
+        };
+        let is_last = is_quit(&line);
+        match answer_line(alloc, line, caller, sink) {
+            Ok(()) => {}
+            Err(stop) => return Err(stop),
+        }
+        if is_last {
+            return Ok(());
+        }
+    }
+}

@@ -1,0 +1,153 @@
+// The work over a device that was opened.
+ghost use Rattle.std.specs.Prelude.{◌≡◌, [], IfOk, IsTrue, List, Option, ℕ, Err};
+ghost use Rattle.device_rules.specs.State.{initial};
+ghost use Rattle.device_rules.specs.Opened.{is_opening};
+ghost use Rattle.device_core.specs.View.{IsReady};
+ghost use Rattle.collect_top.specs.Outside.{Images};
+ghost use Rattle.collect_top.specs.Parts.{own_opening};
+ghost use Rattle.collect_top.specs.Run.{AnswersOver, Closed, HasRun, LogsOver};
+ghost use Rattle.collect_top.specs.Stop.{end_of_script};
+
+use crate::{Stop, Work, put_log};
+use collect_script::{ScriptStop, answer_lines};
+use device_core::{Device, DeviceCaller, OpenFault};
+use device_rules::{State, Trail};
+use disk_model::Disk;
+use entry_form::{Entry, Opening};
+use field_io::{Sink, Source};
+use field_text::{Items, NoMemory, Text};
+use std::alloc::Global;
+
+/// What a call has left before the line of its stop is put.
+pub struct Ran<D> {
+    pub disk: D,
+    pub trail: Trail,
+    pub end: Result<(), Stop>,
+}
+
+// What the work over a device has left.
+struct Worked<D> {
+    disk: D,
+    trail: Trail,
+    end: Result<(), ScriptStop>,
+}
+
+/// A start with nothing behind it.
+pub fn no_trail(alloc: Global) -> Trail
+    ensures start { result.start ≡ initial }
+    ensures entries { result.entries ≡ [] }
+{
+    Trail {
+        start: State::initial(alloc),
+        entries: Items::new(alloc),
+    }
+}
+
+// What this program opens the device with.
+fn opening(alloc: Global) -> Result<Opening, NoMemory>
+    ensures opening { IfOk result (λ opening. Entry.Opened opening ≡ own_opening) }
+    ensures known { IfOk result (λ opening. IsTrue (is_opening opening)) }
+{
+    Ok(Opening {
+        device: 1,
+        server: Text::from_string(String::from_str(alloc, "http://localhost:8080")?),
+    })
+}
+
+fn close<D: Disk>(alloc: Global, device: Device<D>, end: Result<(), ScriptStop>) -> Worked<D>
+    ensures closed { Closed (record { clock = D.clock; may = D.may; since = D.since }) device result.disk result.trail }
+    ensures end { result.end ≡ end }
+{
+    let (disk, trail) = device.into_parts(alloc);
+    Worked { disk, trail, end }
+}
+
+fn answer_script<D: Disk, So: Source, Si: Sink>(
+    alloc: Global,
+    source: &mut So,
+    sink: &mut Si,
+    device: Device<D>,
+) -> Worked<D>
+    requires { IsReady device }
+    ensures { AnswersOver (record { clock = D.clock; may = D.may; since = D.since }) D.faults device
+        (record { left = So.left source.old; held = Si.held sink.old; source_faults = So.faults source.old; sink_faults = Si.faults sink.old })
+        (record { left = So.left source.new; held = Si.held sink.new; source_faults = So.faults source.new; sink_faults = Si.faults sink.new })
+        result.disk result.trail result.end }
+{
+    let mut caller = DeviceCaller::new(device);
+    let end = answer_lines(alloc, source, &mut caller, sink);
+    close(alloc, caller.into_device(), end)
+}
+
+fn print_log<D: Disk, Si: Sink>(alloc: Global, sink: &mut Si, device: Device<D>) -> Worked<D>
+    ensures { (left : Option (List ℕ)) (faults : ℕ) → LogsOver (record { clock = D.clock; may = D.may; since = D.since }) device
+        (record { left = left; held = Si.held sink.old; source_faults = faults; sink_faults = Si.faults sink.old })
+        (record { left = left; held = Si.held sink.new; source_faults = faults; sink_faults = Si.faults sink.new })
+        result.disk result.trail result.end }
+{
+    let worked = close(alloc, device, Ok(()));
+    let Worked {
+        disk,
+        trail,
+        end: _,
+    } = worked;
+    let end = put_log(alloc, trail.entries.as_slice(), sink);
+    Worked { disk, trail, end }
+}
+
+fn end_of(end: Result<(), ScriptStop>) -> Result<(), Stop>
+    ensures { result ≡ end_of_script end }
+{
+    match end {
+        Ok(()) => Ok(()),
+        Err(stop) => Err(Stop::Script(stop)),
+    }
+}
+
+fn unopened<D>(alloc: Global, disk: D, fault: OpenFault) -> Ran<D>
+    ensures { (result.disk ≡ disk) × (result.trail ≡ record { start = initial; entries = [] }) × (result.end ≡ Err (Stop.Opening fault)) }
+{
+    Ran {
+        disk,
+        trail: no_trail(alloc),
+        end: Err(Stop::Opening(fault)),
+    }
+}
+
+fn as_ran<D>(worked: Worked<D>) -> Ran<D>
+    ensures { result ≡ record { disk = worked.disk; trail = worked.trail; end = end_of_script worked.end } }
+{
+    let Worked { disk, trail, end } = worked;
+    Ran {
+        disk,
+        trail,
+        end: end_of(end),
+    }
+}
+
+/// Opens the device, and does the work.
+pub fn run<So: Source, Si: Sink, D: Disk>(
+    alloc: Global,
+    work: Work,
+    source: &mut So,
+    sink: &mut Si,
+    disk: D,
+) -> Ran<D>
+    ensures { HasRun (record { clock = D.clock; may = D.may; since = D.since }) D.content D.faults work disk result.disk
+        (record { left = So.left source.old; held = Si.held sink.old; source_faults = So.faults source.old; sink_faults = Si.faults sink.old })
+        (record { left = So.left source.new; held = Si.held sink.new; source_faults = So.faults source.new; sink_faults = Si.faults sink.new })
+        result.trail result.end }
+{
+    let opening = match opening(alloc) {
+        Ok(opening) => opening,
+        Err(NoMemory) => return unopened(alloc, disk, OpenFault::NoMemory),
+    };
+    let device = match Device::open_device(alloc, disk, opening) {
+        Ok(device) => device,
+        Err((disk, fault)) => return unopened(alloc, disk, fault),
+    };
+    match work {
+        Work::Run => as_ran(answer_script(alloc, source, sink, device)),
+        Work::Log => as_ran(print_log(alloc, sink, device)),
+    }
+}

@@ -1,0 +1,151 @@
+-- How many bytes the entries take whose values are within their limits.
+use Rattle.std.proofs.Common.{◌≡◌, ◌≢◌, ℕ, ◌+◌, ◌≤◌, ◌<◌, ◌^◌, List, [], ◌∷◌, ◌++◌, length, Bool, true, false, Option, Some, None, Result, Ok, Err, refl, sym, ◌∙◌, ap, arith, length-append}
+use Rattle.std.specs.Prelude.{◌&&◌, not, nat_lt, nat_le, if◌then◌else◌}
+use Rattle.std.specs.Int.{w32, to_le_bytes}
+use Rattle.std.specs.Str.{bytes_eq}
+use Rattle.std.proofs.lemmas.Bool.Decides.{nat_tests}
+use Rattle.std.proofs.lemmas.List.Concat.{flat_map-cons}
+use Rattle.std.proofs.lemmas.Slice.Eq.{bytes_eq-Decides}
+use Rattle.entry_form.specs.declared.command.Base.TheVariants.{Blank, Draft, Edit}
+use Rattle.entry_form.specs.declared.command.Command.{Command}
+use Rattle.entry_form.specs.declared.command.Command.TheVariants as commands
+use Rattle.entry_form.specs.declared.command.Outcome.TheVariants.{Reply, Fault}
+use Rattle.entry_form.specs.declared.entry.Entry.{Entry}
+use Rattle.entry_form.specs.declared.entry.Entry.TheVariants.{Opened, Done}
+use Rattle.entry_form.specs.declared.entry.Opening.{Opening}
+use Rattle.entry_form.specs.declared.hand.Hand.{Hand}
+use Rattle.entry_codec.specs.Spelling.{Part, byte, number, text, blob, part_bytes, number_bytes, with_length, parts, bytes_of, IsShort}
+use Rattle.device_rules.specs.declared.answer.Answer.{Answer}
+use Rattle.device_rules.specs.declared.refused.Refused.{Refused}
+use Rattle.device_rules.specs.declared.answer.Answer.TheVariants.{Done as Answered}
+use Rattle.device_rules.specs.declared.refused.Refused.TheVariants.{BadValue, Limit, NotBuilt}
+use Rattle.device_rules.specs.declared.refused.Which.TheVariants.{Counters}
+use Rattle.device_rules.specs.declared.state.State.{State}
+use Rattle.device_rules.specs.Limits.{most_entries, is_short, is_form_short, is_reply_short, is_moment, is_version_short, is_within_limits, answer_in}
+use Rattle.device_rules.specs.Opened.{default_server, is_opening}
+use Rattle.device_rules.specs.Payload.{FitsPayload}
+use Rattle.device_rules.specs.Step.{step}
+use Rattle.device_rules.specs.NotBuilt.{not_built}
+use Rattle.device_rules.specs.Tests.{Stepped, unless}
+
+-- ---- bytes of parts
+
+length-number : (n : ℕ) → length (number_bytes n) ≡ 8
+unfolding number_bytes
+length-number n = refl
+
+length-bytes : (t : List ℕ) → length (with_length t) ≡ 4 + length t
+unfolding with_length
+length-bytes t = omega (arith, length-append (to_le_bytes w32 (length t)) t)
+
+abbrev size_of : List Part → ℕ
+size_of [] = 0
+size_of (byte b ∷ ps) = 1 + size_of ps
+size_of (number n ∷ ps) = 8 + size_of ps
+size_of (text t ∷ ps) = 4 + length t + size_of ps
+size_of (blob b ∷ ps) = 4 + length b + size_of ps
+
+length-cons : (p : Part) (ps : List Part) → length (bytes_of (p ∷ ps)) ≡ length (part_bytes p) + length (bytes_of ps)
+length-cons p ps = ap length (flat_map-cons part_bytes p ps) ∙ length-append (part_bytes p) (bytes_of ps)
+
+length-parts : (ps : List Part) → length (bytes_of ps) ≡ size_of ps
+length-parts [] = refl
+length-parts (byte b ∷ ps) = omega (arith, length-cons (byte b) ps, length-parts ps)
+length-parts (number n ∷ ps) = omega (arith, length-cons (number n) ps, length-parts ps, length-number n)
+length-parts (text t ∷ ps) = omega (arith, length-cons (text t) ps, length-parts ps, length-bytes t)
+length-parts (blob b ∷ ps) = omega (arith, length-cons (blob b) ps, length-parts ps, length-bytes b)
+
+fits : (entry : Entry) → IsShort entry → 1 ≤ size_of (parts entry) → size_of (parts entry) ≤ 524283 → FitsPayload entry
+fits entry short some small = record {
+  short = short;
+  some = let e = length-parts (parts entry) in omega (arith, e, some);
+  small = let e = length-parts (parts entry) in omega (arith, e, small);
+}
+
+-- ---- limits
+
+both : (a b : Bool) → (a && b) ≡ true → (a ≡ true) × (b ≡ true)
+both true b is = (refl, is)
+both false b is = absurd (cc (is))
+
+within : (n most : ℕ) → nat_le n most ≡ true → n ≤ most
+within n most is = grind (arith, nat_tests)
+
+-- a command whose values are within their limits
+pub command_fits : (hand : Hand) (command : Command) → is_within_limits command ≡ true → length (answer_in (Done hand command)) ≤ 2000 → FitsPayload (Done hand command)
+command_fits hand (commands.AutoSend on) ok few = fits (Done hand (commands.AutoSend on)) (tt, (tt, (tt, tt))) (omega arith) (omega arith)
+command_fits hand (commands.UpdateMode mode) ok few = fits (Done hand (commands.UpdateMode mode)) (tt, (tt, (tt, tt))) (omega arith) (omega arith)
+command_fits hand (commands.TakeLock round) ok few = fits (Done hand (commands.TakeLock round)) (tt, (tt, (tt, tt))) (omega arith) (omega arith)
+command_fits hand (commands.Release lock) ok few = fits (Done hand (commands.Release lock)) (tt, (tt, (tt, tt))) (omega arith) (omega arith)
+command_fits hand (commands.Load form) ok few =
+    let l = within (length form) 262144 ok in
+    fits (Done hand (commands.Load form)) (tt, (tt, (omega (arith, l), tt))) (omega arith) (omega (arith, l))
+command_fits hand (commands.Ask id) ok few =
+    let l = within (length id) 4096 ok in
+    fits (Done hand (commands.Ask id)) (tt, (tt, (omega (arith, l), tt))) (omega arith) (omega (arith, l))
+command_fits hand (commands.Fetched job at (Reply bytes)) ok few =
+    let l = within (length bytes) 300000 (both (is_moment at) (is_reply_short bytes) ok).1 in
+    fits (Done hand (commands.Fetched job at (Reply bytes))) (tt, (tt, (tt, (tt, (tt, (omega (arith, l), tt)))))) (omega arith) (omega (arith, l))
+command_fits hand (commands.Fetched job at (Fault stage)) ok few = fits (Done hand (commands.Fetched job at (Fault stage))) (tt, (tt, (tt, (tt, (tt, (tt, tt)))))) (omega arith) (omega arith)
+command_fits hand commands.RoundDone ok few = fits (Done hand commands.RoundDone) (tt, (tt, tt)) (omega arith) (omega arith)
+command_fits hand (commands.DropForm id) ok few =
+    let l = within (length id) 4096 ok in
+    fits (Done hand (commands.DropForm id)) (tt, (tt, (omega (arith, l), tt))) (omega arith) (omega (arith, l))
+command_fits hand (commands.Start (Blank form None) how) ok few =
+    let l = within (length form) 4096 (both (is_short form) true ok).0 in
+    fits (Done hand (commands.Start (Blank form None) how)) (tt, (tt, (tt, (omega (arith, l), (tt, (tt, tt)))))) (omega arith) (omega (arith, l))
+command_fits hand (commands.Start (Blank form (Some version)) how) ok few =
+    let p = both (is_short form) (is_short version) ok in
+    let l = within (length form) 4096 p.0 in
+    let m = within (length version) 4096 p.1 in
+    fits (Done hand (commands.Start (Blank form (Some version)) how)) (tt, (tt, (tt, (omega (arith, l), (tt, (omega (arith, m), (tt, tt))))))) (omega arith) (omega (arith, l, m))
+command_fits hand (commands.Start (Draft n) how) ok few = fits (Done hand (commands.Start (Draft n) how)) (tt, (tt, (tt, (tt, (tt, tt))))) (omega arith) (omega arith)
+command_fits hand (commands.Start (Edit n) how) ok few = fits (Done hand (commands.Start (Edit n) how)) (tt, (tt, (tt, (tt, (tt, tt))))) (omega arith) (omega arith)
+command_fits hand (commands.Fill path value) ok few =
+    let l = within (length path) 4096 ok in
+    fits (Done hand (commands.Fill path value)) (tt, (tt, (omega (arith, l), (omega (arith, few), tt)))) (omega arith) (omega (arith, l, few))
+command_fits hand commands.SaveDraft ok few = fits (Done hand commands.SaveDraft) (tt, (tt, tt)) (omega arith) (omega arith)
+command_fits hand commands.Leave ok few = fits (Done hand commands.Leave) (tt, (tt, tt)) (omega arith) (omega arith)
+command_fits hand commands.Finalize ok few = fits (Done hand commands.Finalize) (tt, (tt, tt)) (omega arith) (omega arith)
+command_fits hand commands.FinalizeAll ok few = fits (Done hand commands.FinalizeAll) (tt, (tt, tt)) (omega arith) (omega arith)
+command_fits hand (commands.DropInstance n) ok few = fits (Done hand (commands.DropInstance n)) (tt, (tt, (tt, tt))) (omega arith) (omega arith)
+command_fits hand (commands.SendBegun n at) ok few = fits (Done hand (commands.SendBegun n at)) (tt, (tt, (tt, (tt, tt)))) (omega arith) (omega arith)
+command_fits hand (commands.SendEnded n (Reply bytes)) ok few =
+    let l = within (length bytes) 300000 ok in
+    fits (Done hand (commands.SendEnded n (Reply bytes))) (tt, (tt, (tt, (tt, (omega (arith, l), tt))))) (omega arith) (omega (arith, l))
+command_fits hand (commands.SendEnded n (Fault stage)) ok few = fits (Done hand (commands.SendEnded n (Fault stage))) (tt, (tt, (tt, (tt, (tt, tt))))) (omega arith) (omega arith)
+command_fits hand commands.Tick ok few = fits (Done hand commands.Tick) (tt, (tt, tt)) (omega arith) (omega arith)
+
+-- ---- entries that aren't refused for a value
+
+not_bad : (ok : Bool) (others : Stepped) → (if not ok then Err BadValue else others) ≢ Err BadValue → ok ≡ true
+not_bad true others good = refl
+not_bad false others good = absurd (good refl)
+
+opening_fits : (opening : Opening) → is_opening opening ≡ true → FitsPayload (Opened opening)
+opening_fits opening ok =
+    let server = (bytes_eq-Decides opening.server default_server).0 (both (nat_lt opening.device (2 ^ 48)) (bytes_eq opening.server default_server) ok).1 in
+    let l : length opening.server ≡ 21 = ap length server in
+    fits (Opened opening) (tt, (tt, (tt, (omega (arith, l), tt)))) (omega arith) (omega (arith, l))
+
+pub good_fits : (state : State) (entry : Entry) → step state entry ≢ Err BadValue → length (answer_in entry) ≤ 2000 → FitsPayload entry
+good_fits state (Opened opening) good few = opening_fits opening (not_bad (is_opening opening) _ good)
+good_fits state (Done hand (commands.AutoSend on)) good few = command_fits hand (commands.AutoSend on) refl few
+good_fits state (Done hand (commands.UpdateMode mode)) good few = command_fits hand (commands.UpdateMode mode) refl few
+good_fits state (Done hand command) good few = command_fits hand command (not_bad (is_within_limits command) _ good) few
+
+-- a command that isn't built is never allowed
+never : (state : State) (command : Command) (x : State × Answer) → not_built state command ≡ Ok x → ⊥
+never state command x is = by (is_within_limits command) (nat_le most_entries state.counters.position) is
+  where
+    by : (ok full : Bool) → unless ((not ok, BadValue) ∷ (full, Limit Counters most_entries) ∷ (true, NotBuilt) ∷ []) (state, Answered) ≡ Ok x → ⊥
+    by true true was = cc (was)
+    by true false was = cc (was)
+    by false full was = cc (was)
+
+-- what the rules allow
+pub allowed_fits : (state : State) (entry : Entry) (x : State × Answer) → step state entry ≡ Ok x → FitsPayload entry
+allowed_fits state (Opened opening) x is = good_fits state (Opened opening) (λ bad. cc (is, bad)) (omega arith)
+allowed_fits state (Done hand (commands.AutoSend on)) x is = command_fits hand (commands.AutoSend on) refl (omega arith)
+allowed_fits state (Done hand (commands.UpdateMode mode)) x is = command_fits hand (commands.UpdateMode mode) refl (omega arith)
+allowed_fits state (Done hand command) x is = absurd (never state command x is)

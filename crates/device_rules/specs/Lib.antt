@@ -1,0 +1,14 @@
+pub mod State
+pub mod Refused
+pub mod Answers
+pub mod Limits
+pub mod Payload
+pub mod Tests
+pub mod Opened
+pub mod AutoSend
+pub mod UpdateMode
+pub mod NotBuilt
+pub mod Step
+pub mod Prepared
+pub mod Trail
+pub mod Caller

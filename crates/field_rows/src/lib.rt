@@ -1,0 +1,8 @@
+//! Rows that are kept: a list, and room for more rows that was taken before.
+#![tactic(auto)]
+
+mod rows;
+#[cfg(test)]
+mod tests;
+
+pub use rows::Rows;

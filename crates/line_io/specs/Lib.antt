@@ -1,0 +1,4 @@
+pub mod Script
+pub mod Reader
+pub mod Reading
+pub mod Output

@@ -1,0 +1,4 @@
+pub mod NodeLemmas
+pub mod TrimLemmas
+pub mod Scalars
+pub mod Written

@@ -1,0 +1,3 @@
+pub mod Nodes
+pub mod Trimming
+pub mod Writing
