@@ -43,7 +43,8 @@ impl Locks {
     /// Takes a lock that nobody holds, by the entry at this position.
     pub fn take(&mut self, lock: Lock, hand: Hand, position: u64) -> Result<(), Held>
         ensures { MatchOption (holder_of self.old lock)
-            ((result ≡ Ok tt) × (self.new ≡ with_holder self.old lock (Some (record { hand = hand; since = position }))))
+            ((result ≡ Ok tt) × (self.new ≡ with_holder self.old lock
+            (Some (record { hand = hand; since = position }))))
             (λ held. (result ≡ Err held) × (self.new ≡ self.old)) }
     {
         if let Some(held) = self.holder(lock) {
@@ -63,7 +64,8 @@ impl Locks {
     pub fn release(&mut self, lock: Lock, hand: Hand) -> Result<(), Option<Held>>
         ensures { MatchResult result
             (λ _. IsHeldBy (holder_of self.old lock) hand × (self.new ≡ with_holder self.old lock None))
-            (λ held. ¬ (IsHeldBy (holder_of self.old lock) hand) × (held ≡ holder_of self.old lock) × (self.new ≡ self.old)) }
+            (λ held. ¬ (IsHeldBy (holder_of self.old lock) hand) × (held ≡ holder_of self.old lock)
+            × (self.new ≡ self.old)) }
     {
         match self.holder(lock) {
             Some(held) if held.hand == hand => {

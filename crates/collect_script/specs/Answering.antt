@@ -11,7 +11,8 @@ use Rattle.device_rules.specs.declared.told.SubmitFault.TheVariants as faults
 use Rattle.device_rules.specs.declared.told.Told.{Told}
 use Rattle.line_io.specs.declared.stop.ReadStop.{ReadStop}
 use Rattle.line_io.specs.declared.stop.ReadStop.TheVariants as reading
-use Rattle.device_rules.specs.Caller.{CallerView, Accepts, Grows, HidesFor, IsFullAt, LeavesRest, Refuses, SameRest, Shows, of_hand}
+use Rattle.device_rules.specs.Caller.{CallerView, Accepts, Grows, HidesFor, IsFullAt, LeavesRest, Refuses, SameRest}
+use Rattle.device_rules.specs.Caller.{Shows, of_hand}
 use Rattle.line_io.specs.Output.{Gained, IsCut}
 use Rattle.collect_text.specs.Answers.{printed_answer, printed_word}
 use Rattle.collect_text.specs.Line.{line_shape}
@@ -34,21 +35,26 @@ module _ (old new : CallerView) where
   -- the text that a line prints
   pub data Says (text : List ℕ) : Line → Type 0 where
     skips : new ≡ old → text ≡ [] → Says text Skipped
-    accepts : (command : Command) (told : Told) → Accepts old new command told → text ≡ printed_answer told.position (line_shape (Give command)) told.answer
+    accepts : (command : Command) (told : Told) → Accepts old new command told
+        → text ≡ printed_answer told.position (line_shape (Give command)) told.answer
         → Says text (Give command)
     refuses : (command : Command) (position : ℕ) (why : Refused) → Refuses old new command position why → why ≢ NoMemory
         → text ≡ printed_refused position why → Says text (Give command)
-    shows : (query : Query) (told : Told) → Shows old new query told → text ≡ printed_answer told.position (line_shape (Look query)) told.answer
+    shows : (query : Query) (told : Told) → Shows old new query told
+        → text ≡ printed_answer told.position (line_shape (Look query)) told.answer
         → Says text (Look query)
     hides : (query : Query) (position : ℕ) (why : Refused) → HidesFor old new query position why → why ≢ NoMemory
         → text ≡ printed_refused position why → Says text (Look query)
-    quits : (query : Query) (told : Told) → Shows old new query told → text ≡ printed_word told.position Quit → Says text Quit
-    not_built : (query : Query) (told : Told) → Shows old new query told → text ≡ printed_word told.position NotBuilt → Says text NotBuilt
+    quits : (query : Query) (told : Told) → Shows old new query told → text ≡ printed_word told.position Quit
+        → Says text Quit
+    not_built : (query : Query) (told : Told) → Shows old new query told → text ≡ printed_word told.position NotBuilt
+        → Says text NotBuilt
 
   -- why a line has no text
   pub data SaysNothing (line : Line) : ScriptStop → Type 0 where
     starved : Adds old new line → SaysNothing line stops.NoMemory
-    full : (command : Command) (size : ℕ) → line ≡ Give command → IsFullAt old new command size → SaysNothing line (stops.JournalFull size)
+    full : (command : Command) (size : ℕ) → line ≡ Give command → IsFullAt old new command size
+        → SaysNothing line (stops.JournalFull size)
     faulted : (command : Command) → line ≡ Give command → LeavesRest old new command → SaysNothing line stops.DiskFault
     failed : Adds old new line → new.faults ≢ 0 → SaysNothing line stops.DiskFault
 
@@ -66,7 +72,8 @@ module _ (old new : CallerView) where
 
   -- one line isn't answered whole
   pub data LineStops (line : Line) (held_old held_new : Option (List ℕ)) (before now : ℕ) : ScriptStop → Type 0 where
-    silent : (stop : ScriptStop) → SaysNothing line stop → Gained held_old held_new [] → now ≡ before → LineStops line held_old held_new before now stop
+    silent : (stop : ScriptStop) → SaysNothing line stop → Gained held_old held_new [] → now ≡ before
+        → LineStops line held_old held_new before now stop
     cut : (text front : List ℕ) → Says text line → IsCut front text → Gained held_old held_new front → Rose before now
         → LineStops line held_old held_new before now stops.WriteFault
 
@@ -90,10 +97,12 @@ stop_of reading.ScriptTooLong = stops.ScriptTooLong
 stop_of reading.NoMemory = stops.NoMemory
 
 -- What answering a script does over a caller, whose history it continues.
-pub record AnswersLines {K : Type 0} (seen : K → CallerView) (leads : K → K → Type 0) (old new : K) (before after : Streams) (end : ScriptEnd) : Type 0 where
+pub record AnswersLines {K : Type 0} (seen : K → CallerView) (leads : K → K → Type 0) (old new : K)
+    (before after : Streams) (end : ScriptEnd) : Type 0 where
   pub added : List Entry
   pub grows : Grows (seen old) (seen new) added
-  pub answers : AnswersScript (seen new).start (seen new).trail (seen new).rest before after (length (seen old).trail) end
+  pub answers : AnswersScript (seen new).start (seen new).trail (seen new).rest before after
+      (length (seen old).trail) end
   pub full : (size : ℕ) → end ≡ Err (stops.JournalFull size) → size ≡ (seen new).length
   pub failed : end ≡ Err stops.DiskFault → (seen new).faults ≢ 0
   pub leads_on : leads old new

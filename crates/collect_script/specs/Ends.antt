@@ -1,5 +1,6 @@
 -- How the lines of a script are answered, and why the answering ends.
-use Rattle.std.specs.Prelude.{◌≡◌, ◌⊎◌, ℕ, ◌+◌, ◌<◌, ◌≤◌, List, [], ◌∷◌, ◌++◌, length, drop, map, Option, Result, Ok, Err}
+use Rattle.std.specs.Prelude.{◌≡◌, ◌⊎◌, ℕ, ◌+◌, ◌<◌, ◌≤◌, List, [], ◌∷◌, ◌++◌, length, drop, map, Option, Result, Ok}
+use Rattle.std.specs.Prelude.{Err}
 use Rattle.field_io.specs.Causes.{Rose}
 use Rattle.entry_form.specs.declared.entry.Entry.{Entry}
 use Rattle.entry_form.specs.declared.entry.Entry.TheVariants.{Done}
@@ -58,21 +59,29 @@ module _ (start : State) (entries rest : List Entry) (before after : Streams) wh
   -- why this line isn't answered whole, behind lines that have printed the text up to the last position
   pub data CantAnswer (text : List ℕ) (last : ℕ) (line : Line) : ScriptStop → Type 0 where
     -- its entry may stand behind the history
-    faulted : MayAdd line (of_script (drop last (entries ++ rest))) → Puts text → CantAnswer text last line stops.DiskFault
+    faulted : MayAdd line (of_script (drop last (entries ++ rest))) → Puts text
+        → CantAnswer text last line stops.DiskFault
     -- its entry may stand in the history
-    starved_at : MayAdd line (of_script (drop last entries)) → of_script rest ≡ [] → Puts text → CantAnswer text last line stops.NoMemory
-    full : (size : ℕ) → IsFullLine line size → IsSettled last → Puts text → CantAnswer text last line (stops.JournalFull size)
+    starved_at : MayAdd line (of_script (drop last entries)) → of_script rest ≡ [] → Puts text
+        → CantAnswer text last line stops.NoMemory
+    full : (size : ℕ) → IsFullLine line size → IsSettled last → Puts text
+        → CantAnswer text last line (stops.JournalFull size)
     -- the front of its answer is put
-    cut : (position : ℕ) (piece front : List ℕ) → HasPrinted start entries last line position piece → IsSettled position → IsCut front piece
-        → Gained before.held after.held (text ++ front) → Rose before.sink_faults after.sink_faults → CantAnswer text last line stops.WriteFault
+    cut : (position : ℕ) (piece front : List ℕ) → HasPrinted start entries last line position piece
+        → IsSettled position → IsCut front piece
+        → Gained before.held after.held (text ++ front) → Rose before.sink_faults after.sink_faults
+        → CantAnswer text last line stops.WriteFault
 
   -- why no more lines are answered than these
   pub data Ends (answered : List (List ℕ)) (text : List ℕ) (last : ℕ) : ScriptEnd → Type 0 where
-    finished : (behind : List ℕ) → Reads before.left after.left answered behind → IsWhole after.left answered behind ⊎ Quits answered
+    finished : (behind : List ℕ) → Reads before.left after.left answered behind
+        → IsWhole after.left answered behind ⊎ Quits answered
         → IsSettled last → Puts text → IsCalm → Ends answered text last (Ok tt)
-    unread : (behind : List ℕ) (stop : ScriptStop) (reads : Reads before.left after.left answered behind) → GoesOn answered
+    unread : (behind : List ℕ) (stop : ScriptStop) (reads : Reads before.left after.left answered behind)
+        → GoesOn answered
         → CantRead reads.script behind stop → IsSettled last → Puts text → Ends answered text last (Err stop)
-    unanswered : (line behind : List ℕ) (stop : ScriptStop) → Reads before.left after.left (answered ++ line ∷ []) behind → GoesOn answered
+    unanswered : (line behind : List ℕ) (stop : ScriptStop)
+        → Reads before.left after.left (answered ++ line ∷ []) behind → GoesOn answered
         → CantAnswer text last (meaning line) stop → IsCalm → Ends answered text last (Err stop)
 
   -- What answering a script has read, printed and left. The positions printed are no lower than the first.

@@ -1,5 +1,6 @@
 -- The lines of a script that were taken from a source.
-use Rattle.std.specs.Prelude.{◌≡◌, ◌⊎◌, ℕ, ◌<◌, List, [], ◌∷◌, ◌++◌, Bool, true, false, not, length, Option, IsTrue, ◌+◌}
+use Rattle.std.specs.Prelude.{◌≡◌, ◌⊎◌, ℕ, ◌<◌, List, [], ◌∷◌, ◌++◌, Bool, true, false, not, length, Option, IsTrue}
+use Rattle.std.specs.Prelude.{◌+◌}
 use Rattle.std.specs.List.{flat_map, list_all, AllByRecursion}
 use Rattle.line_io.specs.Script.{longest_line, most_bytes, IsAtEnd, IsLine, IsUncut, Taken}
 use Rattle.collect_text.specs.Line.{meaning}
@@ -10,7 +11,8 @@ use Rattle.collect_text.specs.declared.line.Line.TheVariants.{Quit}
 abbrev pub ended : List (List ℕ) → List ℕ
 ended lines = flat_map (λ line. line ++ 10 ∷ []) lines
 
--- The bytes are these lines, and what is behind them. Where the input is at its end the last line may lack its line feed.
+-- The bytes are these lines, and what is behind them. Where the input is at its end the last line may lack its line
+-- feed.
 pub data Spells (left : Option (List ℕ)) (bytes : List ℕ) (lines : List (List ℕ)) (behind : List ℕ) : Type 0 where
   by_feeds : bytes ≡ ended lines ++ behind → Spells left bytes lines behind
   by_end : bytes ++ 10 ∷ [] ≡ ended lines → behind ≡ [] → IsAtEnd left → Spells left bytes lines behind

@@ -1,5 +1,6 @@
 -- What was printed is the run's answers at their printed places. Other hands' entries may stand between the script's.
-use Rattle.std.specs.Prelude.{◌≡◌, ◌⊎◌, ℕ, ◌+◌, ◌-◌, ◌≤◌, List, [], ◌∷◌, ◌++◌, length, take, drop, Some, slice_get, Ok, Err}
+use Rattle.std.specs.Prelude.{◌≡◌, ◌⊎◌, ℕ, ◌+◌, ◌-◌, ◌≤◌, List, [], ◌∷◌, ◌++◌, length, take, drop, Some, slice_get}
+use Rattle.std.specs.Prelude.{Ok, Err}
 use Rattle.entry_form.specs.declared.command.Command.{Command}
 use Rattle.entry_form.specs.declared.entry.Entry.{Entry}
 use Rattle.entry_form.specs.declared.entry.Entry.TheVariants.{Done}
@@ -86,7 +87,8 @@ module _ (start : State) (entries : List Entry) where
   -- what one line has printed, at which position, where the last one printed is given
   abbrev pub HasPrinted : ℕ → Line → ℕ → List ℕ → Type 0
   HasPrinted last Skipped position piece = (position ≡ last) × (piece ≡ [])
-  HasPrinted last (Give command) position piece = IsAccepted last command position piece ⊎ IsRefusedAt last command position piece
+  HasPrinted last (Give command) position piece =
+      IsAccepted last command position piece ⊎ IsRefusedAt last command position piece
   HasPrinted last (Look query) position piece = IsTold last query position piece ⊎ IsUntold last query position piece
   HasPrinted last Quit position piece = IsSaid last Quit position piece
   HasPrinted last NotBuilt position piece = IsSaid last NotBuilt position piece
@@ -95,7 +97,8 @@ module _ (start : State) (entries : List Entry) where
   abbrev pub Transcript : ℕ → List Line → List ℕ → ℕ → Type 0
   Transcript last [] text position = (text ≡ []) × (position ≡ last)
   Transcript last (line ∷ lines) text position =
-      (next : ℕ) × (piece : List ℕ) × (rest : List ℕ) × HasPrinted last line next piece × (text ≡ piece ++ rest) × Transcript next lines rest position
+      (next : ℕ) × (piece : List ℕ) × (rest : List ℕ) × HasPrinted last line next piece × (text ≡ piece ++ rest)
+      × Transcript next lines rest position
 
   -- the script has no entry behind the position
   abbrev pub AllAnswered : ℕ → Type 0

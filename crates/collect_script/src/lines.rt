@@ -35,8 +35,10 @@ fn answer_line<K: Caller, Si: Sink>(
     sink: &mut Si,
 ) -> Result<(), ScriptStop>
     requires { (K.seen caller.old).hand ≡ Hand.Script }
-    ensures answered { OnOk result (LineAnswered (K.seen caller.old) (K.seen caller.new) line (Si.held sink.old) (Si.held sink.new) (Si.faults sink.old) (Si.faults sink.new)) }
-    ensures stopped { IfErr result (LineStops (K.seen caller.old) (K.seen caller.new) line (Si.held sink.old) (Si.held sink.new) (Si.faults sink.old) (Si.faults sink.new)) }
+    ensures answered { OnOk result (LineAnswered (K.seen caller.old) (K.seen caller.new) line (Si.held sink.old)
+        (Si.held sink.new) (Si.faults sink.old) (Si.faults sink.new)) }
+    ensures stopped { IfErr result (LineStops (K.seen caller.old) (K.seen caller.new) line (Si.held sink.old)
+        (Si.held sink.new) (Si.faults sink.old) (Si.faults sink.new)) }
     ensures leads { K.leads caller.old caller.new }
 {
     let text = match line_text(alloc, line, caller) {
@@ -55,8 +57,8 @@ fn is_quit(line: &Line) -> bool
     matches!(line, Line::Quit)
 }
 
-/// Answers the lines that a source gives, one after another, up to `quit` or the end of the source. Each is answered before the
-/// next is asked for.
+/// Answers the lines that a source gives, one after another, up to `quit` or the end of the source. Each is answered
+/// before the next is asked for.
 pub fn answer_lines<K: Caller, So: Source, Si: Sink>(
     alloc: Global,
     source: &mut So,
@@ -66,8 +68,18 @@ pub fn answer_lines<K: Caller, So: Source, Si: Sink>(
     requires hand { (K.seen caller.old).hand ≡ Hand.Script }
     requires none_left { of_script (K.seen caller.old).rest ≡ [] }
     ensures { AnswersLines K.seen K.leads caller.old caller.new
-        (record { left = So.left source.old; held = Si.held sink.old; source_faults = So.faults source.old; sink_faults = Si.faults sink.old })
-        (record { left = So.left source.new; held = Si.held sink.new; source_faults = So.faults source.new; sink_faults = Si.faults sink.new }) result }
+        (record {
+          left = So.left source.old;
+          held = Si.held sink.old;
+          source_faults = So.faults source.old;
+          sink_faults = Si.faults sink.old;
+        })
+        (record {
+          left = So.left source.new;
+          held = Si.held sink.new;
+          source_faults = So.faults source.new;
+          sink_faults = Si.faults sink.new;
+        }) result }
 {
     let mut reader = LineReader::new(alloc);
     'lines: loop {

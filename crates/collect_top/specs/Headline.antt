@@ -1,4 +1,5 @@
--- The headline: what holds of every call, whatever its words, script and disk, and wherever a call of the outside fails.
+-- The headline: what holds of every call, whatever its words, script and disk, and wherever a call of the outside
+-- fails.
 use Rattle.std.specs.Prelude.{◌≡◌, ℕ, List, Option}
 use Rattle.device_rules.specs.declared.trail.Trail.{Trail}
 use Rattle.collect_top.specs.declared.words.Work.{Work}
@@ -8,7 +9,8 @@ use Rattle.collect_top.specs.Parts.{Course, PrintedAnswers, SerialRun}
 use Rattle.collect_top.specs.Status.{EndCauses}
 use Rattle.collect_top.specs.Stop.{end_status}
 
-pub record Headline {D : Type 0} (images : Images D) (old new : D) (work : Option Work) (before after : Outside) (status : ℕ) (trail : Trail) : Type 0 where
+pub record Headline {D : Type 0} (images : Images D) (old new : D) (work : Option Work) (before after : Outside)
+    (status : ℕ) (trail : Trail) : Type 0 where
   -- what joins the parts
   pub course : Course
   pub status_is : status ≡ end_status course.end

@@ -18,7 +18,10 @@ log_text entries = log_from 1 entries
 
 -- How putting the log of these entries has ended. The source isn't asked.
 pub data LogsEntries (entries : List Entry) (before after : Streams) : ScriptEnd → Type 0 where
-  logged : Gained before.held after.held (log_text entries) → after.sink_faults ≡ before.sink_faults → LogsEntries entries before after (Ok tt)
-  cut : (front : List ℕ) → IsCut front (log_text entries) → Gained before.held after.held front → Rose before.sink_faults after.sink_faults
+  logged : Gained before.held after.held (log_text entries) → after.sink_faults ≡ before.sink_faults
+      → LogsEntries entries before after (Ok tt)
+  cut : (front : List ℕ) → IsCut front (log_text entries) → Gained before.held after.held front
+      → Rose before.sink_faults after.sink_faults
       → LogsEntries entries before after (Err WriteFault)
-  starved : Gained before.held after.held [] → after.sink_faults ≡ before.sink_faults → LogsEntries entries before after (Err NoMemory)
+  starved : Gained before.held after.held [] → after.sink_faults ≡ before.sink_faults
+      → LogsEntries entries before after (Err NoMemory)

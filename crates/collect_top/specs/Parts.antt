@@ -1,5 +1,6 @@
 -- The first parts of the headline: one serial run, and each printed answer at its place.
-use Rattle.std.specs.Prelude.{◌≡◌, ℕ, suc, ◌≤◌, List, [], ◌∷◌, ◌++◌, IsTrue, length, take, drop, codes, Option, Some, None, slice_get, IfSome, Ok, Err}
+use Rattle.std.specs.Prelude.{◌≡◌, ℕ, suc, ◌≤◌, List, [], ◌∷◌, ◌++◌, IsTrue, length, take, drop, codes, Option, Some}
+use Rattle.std.specs.Prelude.{None, slice_get, IfSome, Ok, Err}
 use Rattle.std.specs.List.{AllByRecursion}
 use Rattle.field_io.specs.Causes.{Rose}
 use Rattle.entry_form.specs.declared.entry.Entry.{Entry}
@@ -24,8 +25,8 @@ use Rattle.collect_top.specs.Log.{LogsEntries}
 use Rattle.collect_top.specs.Outside.{Outside, streams_of}
 use Rattle.collect_top.specs.Stop.{End, end_of_script, fault_line}
 
--- What joins the parts of the headline: how the call ended, how many entries opening found where the device was opened, and
--- the entry behind the history whose append met the fault that ended the call.
+-- What joins the parts of the headline: how the call ended, how many entries opening found where the device was
+-- opened, and the entry behind the history whose append met the fault that ended the call.
 pub record Course : Type 0 where
   pub end : End
   pub found : Option ℕ
@@ -53,14 +54,19 @@ pub record SerialRun (image : Option (List ℕ)) (course : Course) (trail : Trai
   pub begins : Begins image (entries_of trail.entries) course.found
 
 -- What the work has printed before the line of a stop. Where the device wasn't opened, nothing was read or put.
-pub data Prints (work : Option Work) (before between : Streams) (entries rest : List Entry) : End → Option ℕ → Type 0 where
+pub data Prints (work : Option Work) (before between : Streams) (entries rest : List Entry) : End → Option ℕ
+    → Type 0 where
   usage : work ≡ None → between ≡ before → Prints work before between entries rest (Err Usage) None
-  unopened : (asked : Work) (fault : OpenFault) → work ≡ Some asked → between ≡ before → Prints work before between entries rest (Err (Opening fault)) None
-  answers : (found : ℕ) (end : ScriptEnd) → work ≡ Some Run → AnswersScript initial entries rest before between (suc found) end
+  unopened : (asked : Work) (fault : OpenFault) → work ≡ Some asked → between ≡ before
+      → Prints work before between entries rest (Err (Opening fault)) None
+  answers : (found : ℕ) (end : ScriptEnd) → work ≡ Some Run
+      → AnswersScript initial entries rest before between (suc found) end
       → ((size : ℕ) → end ≡ Err (script.JournalFull size) → size ≡ end_of (payloads_of entries))
       → Prints work before between entries rest (end_of_script end) (Some found)
-  logs : (found : ℕ) (end : ScriptEnd) → work ≡ Some Log → length entries ≡ suc found → rest ≡ [] → LogsEntries entries before between end
-      → between.left ≡ before.left → between.source_faults ≡ before.source_faults → Prints work before between entries rest (end_of_script end) (Some found)
+  logs : (found : ℕ) (end : ScriptEnd) → work ≡ Some Log → length entries ≡ suc found → rest ≡ []
+      → LogsEntries entries before between end
+      → between.left ≡ before.left → between.source_faults ≡ before.source_faults
+      → Prints work before between entries rest (end_of_script end) (Some found)
 
 -- Behind it stands the line of a stop, cut only where the sink failed in it; a fault of the sink has none.
 pub data PutsStop (between after : Streams) : End → Type 0 where

@@ -1,5 +1,6 @@
 -- What the work over an opened device leaves, and a call before the line of its stop. It serves proofs alone.
-use Rattle.std.specs.Prelude.{◌≡◌, ◌≢◌, ◌⊎◌, ℕ, ◌≤◌, List, [], ◌++◌, length, Option, Some, None, option_to_list, Ok, Err}
+use Rattle.std.specs.Prelude.{◌≡◌, ◌≢◌, ◌⊎◌, ℕ, ◌≤◌, List, [], ◌++◌, length, Option, Some, None, option_to_list, Ok}
+use Rattle.std.specs.Prelude.{Err}
 use Rattle.field_io.specs.Causes.{Rose}
 use Rattle.entry_form.specs.declared.entry.Entry.{Entry}
 use Rattle.device_journal.specs.Frames.{end_of}
@@ -32,23 +33,27 @@ pub record Closed {D : Type 0} (images : Images D) (now : DeviceView D) (disk : 
   pub crash : Crash images.since images.clock disk now.opened now.found trail.entries (option_to_list now.rest)
 
 -- the script was answered over a device
-pub record AnswersOver {D : Type 0} (images : Images D) (faults : D → ℕ) (old : DeviceView D) (before after : Streams) (disk : D) (trail : Trail) (end : ScriptEnd) : Type 0 where
+pub record AnswersOver {D : Type 0} (images : Images D) (faults : D → ℕ) (old : DeviceView D) (before after : Streams)
+    (disk : D) (trail : Trail) (end : ScriptEnd) : Type 0 where
   pub now : DeviceView D
   pub closed : Closed images now disk trail
   pub added : List Entry
   pub gained : entries_of now.entries ≡ entries_of old.entries ++ added
-  pub answers : AnswersScript initial (entries_of now.entries) (option_to_list now.rest) before after (length (entries_of old.entries)) end
+  pub answers : AnswersScript initial (entries_of now.entries) (option_to_list now.rest) before after
+      (length (entries_of old.entries)) end
   pub full : (size : ℕ) → end ≡ Err (script.JournalFull size) → size ≡ end_of (payloads_of (entries_of now.entries))
   pub failed : end ≡ Err script.DiskFault → Rose (faults old.disk) (faults disk)
   pub leads : Leads images.since images.clock faults old now
 
 -- the log of a device was put
-pub record LogsOver {D : Type 0} (images : Images D) (old : DeviceView D) (before after : Streams) (disk : D) (trail : Trail) (end : ScriptEnd) : Type 0 where
+pub record LogsOver {D : Type 0} (images : Images D) (old : DeviceView D) (before after : Streams) (disk : D)
+    (trail : Trail) (end : ScriptEnd) : Type 0 where
   pub closed : Closed images old disk trail
   pub logs : LogsEntries (entries_of old.entries) before after end
 
 -- what a call has left before the line of its stop
-pub record HasRun {D : Type 0} (images : Images D) (content : D → Option (List ℕ)) (faults : D → ℕ) (work : Work) (old new : D) (before between : Streams) (trail : Trail) (end : End) : Type 0 where
+pub record HasRun {D : Type 0} (images : Images D) (content : D → Option (List ℕ)) (faults : D → ℕ) (work : Work)
+    (old new : D) (before between : Streams) (trail : Trail) (end : End) : Type 0 where
   pub found : Option ℕ
   pub rest : List Entry
   pub start : trail.start ≡ initial

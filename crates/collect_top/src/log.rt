@@ -28,7 +28,8 @@ fn log_text(alloc: Global, entries: &[Marked]) -> Result<Vec<u8>, NoMemory>
 pub fn put_log<Si: Sink>(alloc: Global, entries: &[Marked], sink: &mut Si) -> Result<(), ScriptStop>
     ensures { (left : Option (List ℕ)) (faults : ℕ) → LogsEntries (entries_of entries.now)
         (record { left = left; held = Si.held sink.old; source_faults = faults; sink_faults = Si.faults sink.old })
-        (record { left = left; held = Si.held sink.new; source_faults = faults; sink_faults = Si.faults sink.new }) result }
+        (record { left = left; held = Si.held sink.new; source_faults = faults; sink_faults = Si.faults sink.new })
+        result }
 {
     let text = match log_text(alloc, entries) {
         Ok(text) => text,

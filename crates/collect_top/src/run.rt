@@ -70,8 +70,18 @@ fn answer_script<D: Disk, So: Source, Si: Sink>(
 ) -> Worked<D>
     requires { IsReady device }
     ensures { AnswersOver (record { clock = D.clock; may = D.may; since = D.since }) D.faults device
-        (record { left = So.left source.old; held = Si.held sink.old; source_faults = So.faults source.old; sink_faults = Si.faults sink.old })
-        (record { left = So.left source.new; held = Si.held sink.new; source_faults = So.faults source.new; sink_faults = Si.faults sink.new })
+        (record {
+          left = So.left source.old;
+          held = Si.held sink.old;
+          source_faults = So.faults source.old;
+          sink_faults = Si.faults sink.old;
+        })
+        (record {
+          left = So.left source.new;
+          held = Si.held sink.new;
+          source_faults = So.faults source.new;
+          sink_faults = Si.faults sink.new;
+        })
         result.disk result.trail result.end }
 {
     let mut caller = DeviceCaller::new(device);
@@ -80,7 +90,8 @@ fn answer_script<D: Disk, So: Source, Si: Sink>(
 }
 
 fn print_log<D: Disk, Si: Sink>(alloc: Global, sink: &mut Si, device: Device<D>) -> Worked<D>
-    ensures { (left : Option (List ℕ)) (faults : ℕ) → LogsOver (record { clock = D.clock; may = D.may; since = D.since }) device
+    ensures { (left : Option (List ℕ)) (faults : ℕ)
+        → LogsOver (record { clock = D.clock; may = D.may; since = D.since }) device
         (record { left = left; held = Si.held sink.old; source_faults = faults; sink_faults = Si.faults sink.old })
         (record { left = left; held = Si.held sink.new; source_faults = faults; sink_faults = Si.faults sink.new })
         result.disk result.trail result.end }
@@ -105,7 +116,8 @@ fn end_of(end: Result<(), ScriptStop>) -> Result<(), Stop>
 }
 
 fn unopened<D>(alloc: Global, disk: D, fault: OpenFault) -> Ran<D>
-    ensures { (result.disk ≡ disk) × (result.trail ≡ record { start = initial; entries = [] }) × (result.end ≡ Err (Stop.Opening fault)) }
+    ensures { (result.disk ≡ disk) × (result.trail ≡ record { start = initial; entries = [] })
+        × (result.end ≡ Err (Stop.Opening fault)) }
 {
     Ran {
         disk,
@@ -134,8 +146,18 @@ pub fn run<So: Source, Si: Sink, D: Disk>(
     disk: D,
 ) -> Ran<D>
     ensures { HasRun (record { clock = D.clock; may = D.may; since = D.since }) D.content D.faults work disk result.disk
-        (record { left = So.left source.old; held = Si.held sink.old; source_faults = So.faults source.old; sink_faults = Si.faults sink.old })
-        (record { left = So.left source.new; held = Si.held sink.new; source_faults = So.faults source.new; sink_faults = Si.faults sink.new })
+        (record {
+          left = So.left source.old;
+          held = Si.held sink.old;
+          source_faults = So.faults source.old;
+          sink_faults = Si.faults sink.old;
+        })
+        (record {
+          left = So.left source.new;
+          held = Si.held sink.new;
+          source_faults = So.faults source.new;
+          sink_faults = Si.faults sink.new;
+        })
         result.trail result.end }
 {
     let opening = match opening(alloc) {

@@ -247,8 +247,8 @@ fn settings_on(alloc: Global, disk: MemDisk) -> Result<Vec<u8>, Fail> {
     Ok(Vec::from_slice(alloc, sink.bytes())?)
 }
 
-// Five calls make the journal; the opening takes calls 6 to 9 and the command 10 to 13. Each entry's gate is written by the
-// third of its calls, so a stop at the fourth leaves the entry, which was not told.
+// Five calls make the journal; the opening takes calls 6 to 9 and the command 10 to 13. Each entry's gate is written
+// by the third of its calls, so a stop at the fourth leaves the entry, which was not told.
 #[test]
 fn every_stop_leaves_what_was_told(rt: HostRuntime) -> Result<(), Fail> {
     let alloc = rt.alloc();

@@ -54,7 +54,8 @@ fn finish<Si: Sink>(sink: &mut Si, end: Result<(), Stop>) -> u8
     ensures status { result ≡ end_status end }
     ensures stop { (left : Option (List ℕ)) (faults : ℕ) → PutsStop
         (record { left = left; held = Si.held sink.old; source_faults = faults; sink_faults = Si.faults sink.old })
-        (record { left = left; held = Si.held sink.new; source_faults = faults; sink_faults = Si.faults sink.new }) end }
+        (record { left = left; held = Si.held sink.new; source_faults = faults; sink_faults = Si.faults sink.new })
+        end }
 {
     let stop = match end {
         Ok(()) => return 0,
@@ -69,9 +70,9 @@ fn finish<Si: Sink>(sink: &mut Si, end: Result<(), Stop>) -> u8
     }
 }
 
-/// Runs a command over the outside that is handed in: `run` answers the script that the source gives, and `log` prints a line
-/// for each entry of the journal and reads no script. It always returns, and the disk and the hands' devices come back with
-/// the status and the entries.
+/// Runs a command over the outside that is handed in: `run` answers the script that the source gives, and `log`
+/// prints a line for each entry of the journal and reads no script. It always returns, and the disk and the hands'
+/// devices come back with the status and the entries.
 pub fn collect_alone<So: Source, Si: Sink, D: Disk, N: Dialer, C: Clock>(
     alloc: Global,
     words: &[Text],
@@ -80,7 +81,8 @@ pub fn collect_alone<So: Source, Si: Sink, D: Disk, N: Dialer, C: Clock>(
     disk: D,
     hands: Hands<N, C>,
 ) -> Done<D, N, C>
-    ensures headline { Headline (record { clock = D.clock; may = D.may; since = D.since }) disk result.disk (work_of words.now)
+    ensures headline { Headline (record { clock = D.clock; may = D.may; since = D.since }) disk result.disk
+        (work_of words.now)
         (record {
           left = So.left source.old;
           held = Si.held sink.old;

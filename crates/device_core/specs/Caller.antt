@@ -1,5 +1,6 @@
 -- What a device shows to the script's hand, and what holds between its calls.
-use Rattle.std.specs.Prelude.{◌≡◌, ◌⊎◌, ℕ, ◌+◌, ◌-◌, ◌^◌, ◌≤◌, min, nat_le, IsTrue, List, ◌++◌, length, Option, option_to_list, Result, Ok, Err, if◌then◌else◌}
+use Rattle.std.specs.Prelude.{◌≡◌, ◌⊎◌, ℕ, ◌+◌, ◌-◌, ◌^◌, ◌≤◌, min, nat_le, IsTrue, List, ◌++◌, length, Option}
+use Rattle.std.specs.Prelude.{option_to_list, Result, Ok, Err, if◌then◌else◌}
 use Rattle.std.specs.List.{AllByRecursion}
 use Rattle.field_io.specs.Causes.{Rose}
 use Rattle.entry_form.specs.declared.entry.Entry.{Entry}
@@ -46,9 +47,11 @@ module _ {D : Type 0} (since : D → ℕ → List ℕ → Type 0) (clock disk_fa
     -- what stands behind the entries and what an append has left, if it met a fault
     pub more : List Entry
     pub script : AllByRecursion (λ e. IsTrue (is_of Script e)) more
-    pub grows : entries_of new.entries ++ option_to_list new.rest ≡ (entries_of old.entries ++ option_to_list old.rest) ++ more
+    pub grows : entries_of new.entries ++ option_to_list new.rest
+        ≡ (entries_of old.entries ++ option_to_list old.rest) ++ more
     -- a crash at any moment leaves the entries from before, and of the others the first ones
-    pub images : AddsOnly since clock old.disk new.disk (HasAtLeast (entries_of new.entries ++ option_to_list new.rest) (length old.entries))
+    pub images : AddsOnly since clock old.disk new.disk
+        (HasAtLeast (entries_of new.entries ++ option_to_list new.rest) (length old.entries))
     pub later : disk_faults old.disk ≤ disk_faults new.disk
     pub ready : IsReady old → IsReady new ⊎ Rose (disk_faults old.disk) (disk_faults new.disk)
 

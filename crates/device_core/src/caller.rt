@@ -102,7 +102,8 @@ impl<D: Disk> Caller for DeviceCaller<D> {
 
     ghost legal = { λ c. seen_legal D.faults c.device c.before c.refusals c.closings c.legal };
 
-    ghost leads_on = { λ a b c first second. leads_on_then D.since D.clock D.faults a.before b.before c.before a.device b.device c.device first second };
+    ghost leads_on = { λ a b c first second. leads_on_then D.since D.clock D.faults a.before b.before c.before
+        a.device b.device c.device first second };
 
     ghost stays = { λ c. leads_on_same D.since D.clock D.faults c.before c.device };
 }

@@ -19,7 +19,8 @@ fn disk_of(alloc: Global, bytes: &[u8]) -> Result<MemDisk, NoMemory> {
 
 // An opening, auto-send on, mode exact.
 const IMAGE: &[u8] =
-    b"ODKDEV01\xA7\x23\0\0\0\x01\0\x01\0\0\0\0\0\0\0\x15\0\0\0http://localhost:8080\xA7\x03\0\0\0\x02\0\x01\xA7\x03\0\0\0\x03\0\x02\0";
+    b"ODKDEV01\xA7\x23\0\0\0\x01\0\x01\0\0\0\0\0\0\0\x15\0\0\0http://localhost:8080\
+        \xA7\x03\0\0\0\x02\0\x01\xA7\x03\0\0\0\x03\0\x02\0";
 
 fn opened(alloc: Global, disk: MemDisk) -> Result<Device<MemDisk>, Fail> {
     let opening = own_opening(alloc)?;
@@ -164,8 +165,8 @@ fn stop_at(alloc: Global, k: u64) -> Result<(u64, MemDisk), Fail> {
     Ok((last, disk.into_disk()))
 }
 
-// The call at which the disk stops, the last position told, and how many entries are found. Five calls make the journal, and
-// each entry takes four.
+// The call at which the disk stops, the last position told, and how many entries are found. Five calls make the
+// journal, and each entry takes four.
 static STOPS: [(u64, u64, u64); 18] = [
     (1, 0, 0),
     (2, 0, 0),

@@ -1,5 +1,5 @@
--- One step of the rules: the next state and the answer, or the first refusal that applies. Each command has a file of
--- its own.
+-- One step of the rules: the first refusal that applies or, without one, the answer and the state behind it. Each
+-- command has a file of its own.
 use Rattle.std.specs.Prelude.{◌≡◌, Ok}
 use Rattle.field_text.specs.Steps.{Tells}
 use Rattle.entry_form.specs.declared.command.Command.{Command}

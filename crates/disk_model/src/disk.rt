@@ -85,7 +85,7 @@ pub trait Disk {
     fn fault_count(&self) -> u64
         ensures { result ≡ faults self.now };
 
-    /// A disk as it reads is one of its images.
+    /// What a disk reads as is among its images.
     ghost reads_as: { (disk : Self) (bytes : List ℕ) → content disk ≡ Some bytes → may disk bytes };
 
     /// This moment is one of those since an earlier one.

@@ -87,7 +87,7 @@ impl FailingDisk {
 pub struct FusedDisk;
 
 impl FusedDisk {
-    /// A disk that fails each call from the k-th on.
+    /// A disk that stops at its k-th call: that one fails, and all behind it.
     pub fn make(disk: MemDisk, k: u64) -> FailingDisk
         ensures plan { plan_of result ≡ From k }
         ensures content { ⟦<FailingDisk as Disk>⟧.content result ≡ ⟦<MemDisk as Disk>⟧.content disk }

@@ -56,11 +56,13 @@ static SPELLINGS: [(&[u8], &[u8]); 23] = [
     ),
     (
         b"\x0b\x00\x00\x04\x00\x00\x00tree\x00\x00",
-        b"Done { hand: Script, command: Start { base: Blank { form: Text { inner: \"tree\" }, version: None }, how: Fresh } }",
+        b"Done { hand: Script, command: Start { base: Blank { form: Text { inner: \"tree\" }, \
+            version: None }, how: Fresh } }",
     ),
     (
         b"\x0b\x00\x00\x01\x00\x00\x00t\x01\x02\x00\x00\x0012\x01",
-        b"Done { hand: Script, command: Start { base: Blank { form: Text { inner: \"t\" }, version: Some(Text { inner: \"12\" }) }, how: Recover } }",
+        b"Done { hand: Script, command: Start { base: Blank { form: Text { inner: \"t\" }, \
+            version: Some(Text { inner: \"12\" }) }, how: Recover } }",
     ),
     (
         b"\x0b\x00\x01\x03\x00\x00\x00\x00\x00\x00\x00\x02",

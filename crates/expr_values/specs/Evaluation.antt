@@ -1,5 +1,6 @@
 -- The value of an expression, by its structure.
-use Rattle.std.specs.Prelude.{ℕ, Bool, true, cond, if◌then◌else◌, List, [], ◌∷◌, map, find, flat_map, Option, Some, None}
+use Rattle.std.specs.Prelude.{ℕ, Bool, true, cond, if◌then◌else◌, List, [], ◌∷◌, map, find, flat_map, Option, Some}
+use Rattle.std.specs.Prelude.{None}
 use Rattle.std.specs.List.{slice_index_or, list_any}
 use Rattle.std.specs.Option.{option_map_or}
 use Rattle.std.specs.Str.{bytes_eq}

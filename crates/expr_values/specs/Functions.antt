@@ -1,9 +1,11 @@
 -- Functions of values (XPath 1.0, section 4, and ODK XForms, in a profile).
-use Rattle.std.specs.Prelude.{ℕ, pos, Bool, true, false, not, ◌==◌, nat_le, if◌then◌else◌, List, [], length, chars, count_by, ◌&&◌}
+use Rattle.std.specs.Prelude.{ℕ, pos, Bool, true, false, not, ◌==◌, nat_le, if◌then◌else◌, List, [], length, chars}
+use Rattle.std.specs.Prelude.{count_by, ◌&&◌}
 use Rattle.std.specs.List.{list_any, slice_index_or, slice_split, flat_map}
 use Rattle.std.specs.Str.{bytes_eq}
 use Rattle.form_def.specs.declared.expr.Func.{Func}
-use Rattle.form_def.specs.declared.expr.Func.TheVariants.{Yes, No, Not, Selected, CountSelected, StringLength, Concat, Choose, Coalesce}
+use Rattle.form_def.specs.declared.expr.Func.TheVariants.{Yes, No, Not, Selected, CountSelected, StringLength, Concat}
+use Rattle.form_def.specs.declared.expr.Func.TheVariants.{Choose, Coalesce}
 use Rattle.expr_values.specs.declared.value.Value.{Value}
 use Rattle.expr_values.specs.declared.value.Value.TheVariants.{Truth, Words}
 use Rattle.expr_values.specs.Values.{whole, truth_of, text_of}

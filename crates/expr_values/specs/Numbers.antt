@@ -1,5 +1,6 @@
 -- Whole numbers in texts: white space, perhaps a minus sign, and digits.
-use Rattle.std.specs.Prelude.{ℕ, ℤ, pos, neg_ℤ, ◌+◌, ◌-◌, ◌*◌, ◌==◌, nat_le, Bool, false, ◌&&◌, if◌then◌else◌, List, [], ◌∷◌, length, reverse, fold, Option, Some, None}
+use Rattle.std.specs.Prelude.{ℕ, ℤ, pos, neg_ℤ, ◌+◌, ◌-◌, ◌*◌, ◌==◌, nat_le, Bool, false, ◌&&◌, if◌then◌else◌, List}
+use Rattle.std.specs.Prelude.{[], ◌∷◌, length, reverse, fold, Option, Some, None}
 use Rattle.std.specs.List.{list_all}
 use Rattle.field_text.specs.Xml.{is_between, is_xml_space}
 

@@ -1,9 +1,11 @@
 -- Operators between values (XPath 1.0, sections 3.4 and 3.5, in a profile).
-use Rattle.std.specs.Prelude.{ℤ, neg_ℤ, ◌+ℤ◌, ◌-ℤ◌, ◌*ℤ◌, unsigned_abs, int_rem, int_lt, int_le, Bool, false, not, ◌&&◌, ◌||◌, ◌==◌, if◌then◌else◌, Option, Some, None}
+use Rattle.std.specs.Prelude.{ℤ, neg_ℤ, ◌+ℤ◌, ◌-ℤ◌, ◌*ℤ◌, unsigned_abs, int_rem, int_lt, int_le, Bool, false, not}
+use Rattle.std.specs.Prelude.{◌&&◌, ◌||◌, ◌==◌, if◌then◌else◌, Option, Some, None}
 use Rattle.std.specs.Ordering.{int_eq}
 use Rattle.std.specs.Str.{bytes_eq}
 use Rattle.form_def.specs.declared.expr.Op.{Op}
-use Rattle.form_def.specs.declared.expr.Op.TheVariants.{Or, And, Equal, NotEqual, Less, LessEqual, Greater, GreaterEqual, Add, Subtract, Multiply, Modulo}
+use Rattle.form_def.specs.declared.expr.Op.TheVariants.{Or, And, Equal, NotEqual, Less, LessEqual, Greater}
+use Rattle.form_def.specs.declared.expr.Op.TheVariants.{GreaterEqual, Add, Subtract, Multiply, Modulo}
 use Rattle.expr_values.specs.declared.value.Value.{Value}
 use Rattle.expr_values.specs.declared.value.Value.TheVariants.{Truth, Number, NotANumber, Words}
 use Rattle.expr_values.specs.Values.{whole, truth_of, number_of}

@@ -1,6 +1,7 @@
 -- Values (XPath 1.0, section 1, in a profile): truths, whole numbers of size at most 10^15, not a number, and texts;
 -- and each of them as a truth, as a number and as a text (section 4).
-use Rattle.std.specs.Prelude.{ℕ, ℤ, pos, unsigned_abs, Bool, true, false, not, ◌^◌, ◌==◌, nat_le, if◌then◌else◌, List, [], ◌∷◌, Option, Some, None, codes}
+use Rattle.std.specs.Prelude.{ℕ, ℤ, pos, unsigned_abs, Bool, true, false, not, ◌^◌, ◌==◌, nat_le, if◌then◌else◌, List}
+use Rattle.std.specs.Prelude.{[], ◌∷◌, Option, Some, None, codes}
 use Rattle.std.specs.Fmt.{signed_decimal}
 use Rattle.expr_values.specs.declared.value.Value.{Value}
 use Rattle.expr_values.specs.declared.value.Value.TheVariants.{Truth, Number, NotANumber, Words}

@@ -1,5 +1,7 @@
 ghost use Rattle.std.specs.Prelude.{◌≡◌, ◌≤◌, ◌<◌, ◌^◌, ℕ, true};
-ghost use Rattle.expr_values.specs.Numbers.{trimmed_front as front_trimmed, trimmed as both_trimmed, is_digit, are_digits as digits_of_length, digits_value as value_of_digits, is_whole as whole_text, signed_value as signed, number_in as number};
+ghost use Rattle.expr_values.specs.Numbers.{trimmed_front as front_trimmed, trimmed as both_trimmed, is_digit};
+ghost use Rattle.expr_values.specs.Numbers.{are_digits as digits_of_length, digits_value as value_of_digits};
+ghost use Rattle.expr_values.specs.Numbers.{is_whole as whole_text, signed_value as signed, number_in as number};
 ghost use Rattle.std.specs.Prelude.{reverse, pos, nat_le, ◌&&◌, length};
 ghost use Rattle.std.specs.List.{list_all};
 ghost use Rattle.field_text.specs.Xml.{is_xml_space};

@@ -1,8 +1,10 @@
-ghost use Rattle.std.specs.Prelude.{◌≡◌, ◌++◌, IfOk, ℕ, List, [], ◌==◌, pos, length, chars, string_bytes, if◌then◌else◌};
+ghost use Rattle.std.specs.Prelude.{◌≡◌, ◌++◌, IfOk, ℕ, List, [], ◌==◌, pos, length, chars, string_bytes};
+ghost use Rattle.std.specs.Prelude.{if◌then◌else◌};
 ghost use Rattle.std.specs.List.{flat_map};
 ghost use Rattle.form_def.specs.declared.expr.Func.TheVariants.{Choose, Selected};
 ghost use Rattle.expr_values.specs.Values.{whole, truth_of, text_of};
-ghost use Rattle.expr_values.specs.Functions.{argument, is_some_text, is_selected as selected, piece_count as pieces_in, joined, called};
+ghost use Rattle.expr_values.specs.Functions.{argument, is_some_text, is_selected as selected};
+ghost use Rattle.expr_values.specs.Functions.{piece_count as pieces_in, joined, called};
 
 use crate::pieces::{is_piece, split_piece};
 use crate::value::Value;

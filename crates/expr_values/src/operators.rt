@@ -1,7 +1,8 @@
 ghost use Rattle.std.specs.Prelude.{◌≡◌, ℤ, ◌+ℤ◌, ◌-ℤ◌, ◌*ℤ◌, neg_ℤ, int_lt, int_le, int_rem};
 ghost use Rattle.std.specs.Ordering.{int_eq};
 ghost use Rattle.expr_values.specs.Values.{whole, truth_of, number_of};
-ghost use Rattle.expr_values.specs.Operators.{compared, computed, equal as equal_to, remainder as remainder_of, negative as negative_of, paired};
+ghost use Rattle.expr_values.specs.Operators.{compared, computed, equal as equal_to, remainder as remainder_of};
+ghost use Rattle.expr_values.specs.Operators.{negative as negative_of, paired};
 
 use crate::value::Value;
 use form_def::Op;

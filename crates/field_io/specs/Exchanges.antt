@@ -1,6 +1,7 @@
--- What each call of a dialer adds to the exchanges that it carried. The list is told or not: one that isn't told is never
--- told later, and what stands here of it holds where it is told after the call.
-use Rattle.std.specs.Prelude.{◌≡◌, ◌||◌, ◌==◌, ℕ, Bool, false, List, [], ◌∷◌, ◌++◌, take, Option, Some, None, Result, Ok, Err, IfSome, IsSome}
+-- What each call of a dialer adds to the exchanges that it carried. The list is told or not: one that isn't told is
+-- never told later, and what stands here of it holds where it is told after the call.
+use Rattle.std.specs.Prelude.{◌≡◌, ◌||◌, ◌==◌, ℕ, Bool, false, List, [], ◌∷◌, ◌++◌, take, Option, Some, None, Result}
+use Rattle.std.specs.Prelude.{Ok, Err, IfSome, IsSome}
 use Rattle.std.specs.Option.{option_map}
 use Rattle.field_io.specs.declared.dialer.Stage.{Stage}
 use Rattle.field_io.specs.declared.dialer.Stage.TheVariants.{Dial, Send, Take}

@@ -1,6 +1,7 @@
 -- What a call moves out of a source or into a sink. The content is told or not: one that isn't told is never told
 -- later, and what stands here of a content holds where it is told after the call.
-use Rattle.std.specs.Prelude.{◌≡◌, ℕ, ◌≤◌, List, [], ◌++◌, length, take, Option, Some, None, Result, Ok, IfOk, IfSome, OnErr}
+use Rattle.std.specs.Prelude.{◌≡◌, ℕ, ◌≤◌, List, [], ◌++◌, length, take, Option, Some, None, Result, Ok, IfOk, IfSome}
+use Rattle.std.specs.Prelude.{OnErr}
 use Rattle.std.specs.Option.{option_map}
 
 -- what is left before and after a call that moved bytes into the buffer

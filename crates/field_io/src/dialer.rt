@@ -1,4 +1,5 @@
-ghost use Rattle.std.specs.Prelude.{◌≡◌, ◌<◌, ◌≤◌, ◌++◌, ◌∷◌, [], ℕ, Bool, true, false, List, Option, length, is_ok, IfOk};
+ghost use Rattle.std.specs.Prelude.{◌≡◌, ◌<◌, ◌≤◌, ◌++◌, ◌∷◌, [], ℕ, Bool, true, false, List, Option, length, is_ok};
+ghost use Rattle.std.specs.Prelude.{IfOk};
 ghost use Rattle.field_io.specs.Causes.{HasCause, CountsWhere};
 ghost use Rattle.field_io.specs.Exchanges.{Makes, change_last, dialed, sent_on, taken_on};
 ghost use Rattle.field_io.specs.declared.exchange.Exchange.{Exchange};

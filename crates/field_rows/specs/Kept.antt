@@ -8,4 +8,5 @@ pub record Kept (T : Type 0) : Type 0 where
 
 abbrev pub kept_code : {T : Type 0} → Coded T → Coded (Kept T)
 kept_code {T = T} code =
-    code_by (List T × ℕ) (coded× (coded_list code) coded_ℕ) (λ k. (k.items, k.spare)) (λ p. record { items = p.0; spare = p.1 }) (λ _. refl)
+    code_by (List T × ℕ) (coded× (coded_list code) coded_ℕ) (λ k. (k.items, k.spare))
+    (λ p. record { items = p.0; spare = p.1 }) (λ _. refl)

@@ -25,4 +25,5 @@ text_in cells column = option_map_or (λ c. c.text) (find (λ c. bytes_eq c.colu
 
 -- the text in a column of the row at a place counted from 0, empty where there is none
 abbrev pub cell_text : List NamedTable → List ℕ → ℕ → List ℕ → List ℕ
-cell_text tables name row column = option_map_or (λ cells. text_in cells column) (slice_get (table_rows tables name) row) []
+cell_text tables name row column =
+    option_map_or (λ cells. text_in cells column) (slice_get (table_rows tables name) row) []

@@ -8,7 +8,8 @@ is_between low high c = nat_le low c && nat_le c high
 
 -- the characters that a document may hold
 abbrev pub is_xml_char : ℕ → Bool
-is_xml_char c = (c == 9) || (c == 10) || (c == 13) || is_between 0x20 0xD7FF c || is_between 0xE000 0xFFFD c || is_between 0x10000 0x10FFFF c
+is_xml_char c = (c == 9) || (c == 10) || (c == 13) || is_between 0x20 0xD7FF c || is_between 0xE000 0xFFFD c
+    || is_between 0x10000 0x10FFFF c
 
 -- space, tab, line feed, carriage return
 abbrev pub is_xml_space : ℕ → Bool

@@ -1,7 +1,9 @@
 ghost use Rattle.std.specs.Prelude.{◌≡◌};
 ghost use Rattle.std.specs.List.{list_all};
 ghost use Rattle.std.specs.Str.{chars};
-ghost use Rattle.field_text.specs.Xml.{is_xml_char as xml_char, is_xml_space as xml_space, is_name_start as starts_name, is_name_char as goes_on_name, begins_as_name as begins, is_local_name as local_name, xml_char_of as char_of};
+ghost use Rattle.field_text.specs.Xml.{is_xml_char as xml_char, is_xml_space as xml_space};
+ghost use Rattle.field_text.specs.Xml.{is_name_start as starts_name, is_name_char as goes_on_name};
+ghost use Rattle.field_text.specs.Xml.{begins_as_name as begins, is_local_name as local_name, xml_char_of as char_of};
 
 /// Whether an XML 1.0 document may hold the character (section 2.2).
 pub fn is_xml_char(c: char) -> bool

@@ -1,5 +1,6 @@
 -- The fields of a form, by their numbers in document order: which is whose parent, and what each reads.
-use Rattle.std.specs.Prelude.{ℕ, ◌≢◌, AllPairs, ◌+◌, Bool, true, ◌&&◌, nat_lt, List, [], ◌∷◌, ◌++◌, Option, map, position}
+use Rattle.std.specs.Prelude.{ℕ, ◌≢◌, AllPairs, ◌+◌, Bool, true, ◌&&◌, nat_lt, List, [], ◌∷◌, ◌++◌, Option, map}
+use Rattle.std.specs.Prelude.{position}
 use Rattle.std.specs.List.{list_all, All}
 use Rattle.std.specs.Str.{bytes_eq}
 use Rattle.form_def.specs.declared.field.Field.{Field}
@@ -26,7 +27,8 @@ reads_of_choices own (Rows table filter value) = reads_of own filter
 
 -- the fields that any expression of a field reads
 abbrev pub reads_of_field : ℕ → Field → List ℕ
-reads_of_field own f = reads_of own f.relevant ++ reads_of own f.constraint ++ reads_of own f.required ++ reads_of own f.readonly ++ reads_of own f.calculate ++ reads_of_choices own f.choices
+reads_of_field own f = reads_of own f.relevant ++ reads_of own f.constraint ++ reads_of own f.required
+    ++ reads_of own f.readonly ++ reads_of own f.calculate ++ reads_of_choices own f.choices
 
 abbrev pub reads_below : ℕ → ℕ → Field → Bool
 reads_below count own f = list_all (λ k. nat_lt k count) (reads_of_field own f)

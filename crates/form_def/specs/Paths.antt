@@ -1,5 +1,5 @@
--- Paths of fields: the root's name and then one or more names, a slash before each. The last may be an attribute's, with `@`
--- before its name.
+-- Paths of fields: the root's name and then one or more names, a slash before each. The last may be an attribute's,
+-- with `@` before its name.
 use Rattle.std.specs.Prelude.{ℕ, Bool, false, ◌&&◌, ◌||◌, ◌==◌, List, [], ◌∷◌}
 use Rattle.std.specs.List.{slice_split, before_last}
 use Rattle.std.specs.Str.{bytes_eq, chars}

@@ -1,5 +1,6 @@
 ghost use Rattle.std.specs.Prelude.{◌≡◌, ◌↔◌, length, IsTrue, IfOk};
-ghost use Rattle.form_def.specs.Fields.{number_of, parent_of, parents_of, have_paths, PathsDiffer, LacksPath, reads_below, are_within};
+ghost use Rattle.form_def.specs.Fields.{number_of, parent_of, parents_of, have_paths, PathsDiffer, LacksPath};
+ghost use Rattle.form_def.specs.Fields.{reads_below, are_within};
 
 use crate::field::Field;
 use crate::paths::{is_path, parent_path};

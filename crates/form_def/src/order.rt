@@ -42,7 +42,8 @@ pub fn dependencies(
 
 /// Whether the field of this number may come next behind those that are marked.
 fn may_come(alloc: Global, fields: &[Field], placed: &[bool], number: u64) -> Result<bool, NoMemory>
-    ensures { IfOk result (λ may. may ≡ may_come (length fields.now) (dependencies_at fields.now) (is_marked placed.now) number) }
+    ensures { IfOk result (λ may. may ≡ may_come (length fields.now) (dependencies_at fields.now)
+        (is_marked placed.now) number) }
 {
     let Some(field) = fields.get(number as usize) else {
         return Ok(false);

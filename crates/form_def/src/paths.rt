@@ -1,11 +1,13 @@
 ghost use Rattle.std.specs.Prelude.{◌≡◌, ◌∷◌, [], MatchOption, IfSome, ◌<◌, length};
-ghost use Rattle.form_def.specs.Paths.{parts_of, parent_path as path_above, is_attribute as attribute, are_names as names, is_path as path_below};
+ghost use Rattle.form_def.specs.Paths.{parts_of, parent_path as path_above, is_attribute as attribute};
+ghost use Rattle.form_def.specs.Paths.{are_names as names, is_path as path_below};
 
 use field_text::xml::is_local_name;
 
 /// What stands before the first slash, and behind it.
 fn split_part(path: &str) -> Option<(&str, &str)>
-    ensures parts { MatchOption result (parts_of path.now ≡ path.now ∷ []) (λ x. parts_of path.now ≡ x.0.now ∷ parts_of x.1.now) }
+    ensures parts { MatchOption result (parts_of path.now ≡ path.now ∷ [])
+        (λ x. parts_of path.now ≡ x.0.now ∷ parts_of x.1.now) }
     ensures shorter { IfSome result (λ x. length x.1.now < length path.now) }
 {
     path.split_once('/')

@@ -1,5 +1,6 @@
 -- The reader's stack, token by token. Laws join it to the grammar.
-use Rattle.std.specs.Prelude.{ℕ, ◌+◌, ◌==◌, nat_lt, nat_le, Bool, true, false, if◌then◌else◌, List, [], ◌∷◌, ◌++◌, codes, length, Option, Some, None}
+use Rattle.std.specs.Prelude.{ℕ, ◌+◌, ◌==◌, nat_lt, nat_le, Bool, true, false, if◌then◌else◌, List, [], ◌∷◌, ◌++◌}
+use Rattle.std.specs.Prelude.{codes, length, Option, Some, None}
 use Rattle.std.specs.List.{list_all, list_any}
 use Rattle.std.specs.Str.{bytes_eq}
 use Rattle.rosa_pieces.specs.Reading.{◌>>=◌}
@@ -76,7 +77,8 @@ bound pend.Itemset operand = operand
 -- the operand with all that binds it at least as tightly, and what waits round that
 abbrev pub bound_by : ℕ → List Pending → Syntax → List Pending × Syntax
 bound_by least [] operand = ([], operand)
-bound_by least (pending ∷ outer) operand = if nat_le least (tightness pending) then bound_by least outer (bound pending operand) else (pending ∷ outer, operand)
+bound_by least (pending ∷ outer) operand = if nat_le least (tightness pending)
+    then bound_by least outer (bound pending operand) else (pending ∷ outer, operand)
 
 abbrev pub signs : ℕ
 signs = 7
@@ -104,14 +106,17 @@ with_operator op stack operand = left_of op (bound_by (level op) stack operand)
 
 -- a call opens, and where it takes arguments the first one comes
 abbrev pub opened_call : Func → List Pending → State
-opened_call func stack = if may_take func 0 then at stack (want.CallClosing func) else before_operand (pend.Call func []) stack
+opened_call func stack =
+    if may_take func 0 then at stack (want.CallClosing func) else before_operand (pend.Call func []) stack
 
 -- a name that is no column
 abbrev pub word_step : List Pending → List ℕ → Option State
-word_step stack name = if bytes_eq name (codes "instance") then Some (at stack want.TableOpening) else (function_of name >>= λ func. Some (at stack (want.CallOpening func)))
+word_step stack name = if bytes_eq name (codes "instance") then Some (at stack want.TableOpening)
+    else (function_of name >>= λ func. Some (at stack (want.CallOpening func)))
 
 abbrev pub name_step : List Pending → List ℕ → Option State
-name_step stack name = if is_inside stack then Some (at stack (want.Named name)) else if has_room stack then word_step stack name else None
+name_step stack name = if is_inside stack then Some (at stack (want.Named name))
+    else if has_room stack then word_step stack name else None
 
 -- an operand that can't stand in a filter
 abbrev pub outside_step : List Pending → Syntax → Option State
@@ -137,7 +142,8 @@ abbrev pub closed_call : List Pending → Func → List Syntax → Option State
 closed_call outer func args = if may_take func (length args) then Some (behind outer (syn.Call func args)) else None
 
 abbrev pub next_argument : List Pending → Func → List Syntax → Option State
-next_argument outer func args = if takes_more func (length args) then Some (before_operand (pend.Call func args) outer) else None
+next_argument outer func args =
+    if takes_more func (length args) then Some (before_operand (pend.Call func args) outer) else None
 
 abbrev pub close_step : List Pending × Syntax → Option State
 close_step (pend.Group ∷ outer, whole) = Some (behind outer whole)
@@ -225,7 +231,8 @@ is_in_itemset [] = false
 is_in_itemset (pending ∷ outer) = is_itemset pending
 
 abbrev pub value_step : List Pending → List ℕ → Syntax → Token → Option State
-value_step stack table filter token = if is_in_itemset stack then None else (column_of token >>= λ column. Some (behind stack (syn.Item table filter column)))
+value_step stack table filter token = if is_in_itemset stack then None
+    else (column_of token >>= λ column. Some (behind stack (syn.Item table filter column)))
 
 abbrev pub step_at : Expected → List Pending → Token → Option State
 step_at want.Operand stack token = operand_step stack token
@@ -267,7 +274,8 @@ expr_end s = expr_end_at s.expected s.stack
 -- the itemset that ends here
 abbrev pub itemset_end_at : Expected → List Pending → Option Itemset
 itemset_end_at (want.FilterOpening table) stack = when (is_in_itemset stack) (record { table = table; filter = None })
-itemset_end_at (want.Value table filter) stack = when (is_in_itemset stack) (record { table = table; filter = Some filter })
+itemset_end_at (want.Value table filter) stack =
+    when (is_in_itemset stack) (record { table = table; filter = Some filter })
 itemset_end_at _ stack = None
 
 abbrev pub itemset_end : State → Option Itemset

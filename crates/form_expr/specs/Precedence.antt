@@ -1,9 +1,10 @@
--- Precedence (XPath 1.0, section 3.5): operands with operators between them as one tree. The operator that applies last is the
--- last one of those that bind loosest, so operators of one level group to the left.
+-- Precedence (XPath 1.0, section 3.5): operands with operators between them as one tree. The operator that applies
+-- last is the last one of those that bind loosest, so operators of one level group to the left.
 use Rattle.std.specs.Prelude.{◌≡◌, ℕ, nat_lt, nat_le, true, List, [], ◌∷◌, ◌++◌}
 use Rattle.std.specs.List.{list_all}
 use Rattle.form_def.specs.declared.expr.Op.{Op}
-use Rattle.form_def.specs.declared.expr.Op.TheVariants.{Or, And, Equal, NotEqual, Less, LessEqual, Greater, GreaterEqual, Add, Subtract, Multiply, Modulo}
+use Rattle.form_def.specs.declared.expr.Op.TheVariants.{Or, And, Equal, NotEqual, Less, LessEqual, Greater}
+use Rattle.form_def.specs.declared.expr.Op.TheVariants.{GreaterEqual, Add, Subtract, Multiply, Modulo}
 use Rattle.form_expr.specs.declared.syntax.Syntax.{Syntax}
 use Rattle.form_expr.specs.declared.syntax.Syntax.TheVariants.{Pair}
 
@@ -30,5 +31,8 @@ pub record Link : Type 0 where
 -- operands, each with the operator behind it, and the last operand are this tree
 pub data IsTree : List Link → Syntax → Syntax → Type 0 where
   alone : (operand : Syntax) → IsTree [] operand operand
-  pair : (before after : List Link) (link : Link) (last left right : Syntax) → list_all (λ k. nat_le (level link.op) (level k.op)) before ≡ true → list_all (λ k. nat_lt (level link.op) (level k.op)) after ≡ true
-      → IsTree before link.left left → IsTree after last right → IsTree (before ++ link ∷ after) last (Pair link.op left right)
+  pair : (before after : List Link) (link : Link) (last left right : Syntax)
+      → list_all (λ k. nat_le (level link.op) (level k.op)) before ≡ true
+      → list_all (λ k. nat_lt (level link.op) (level k.op)) after ≡ true
+      → IsTree before link.left left → IsTree after last right
+      → IsTree (before ++ link ∷ after) last (Pair link.op left right)

@@ -1,5 +1,6 @@
 -- What a text is read as: an expression or an itemset, or the place in bytes at which it stops being one.
-use Rattle.std.specs.Prelude.{◌≡◌, ℕ, zero, suc, ◌-◌, nat_lt, if◌then◌else◌, List, [], ◌∷◌, length, reverse, Option, Some, None, Result, Ok, Err, encode_utf8_all}
+use Rattle.std.specs.Prelude.{◌≡◌, ℕ, zero, suc, ◌-◌, nat_lt, if◌then◌else◌, List, [], ◌∷◌, length, reverse, Option}
+use Rattle.std.specs.Prelude.{Some, None, Result, Ok, Err, encode_utf8_all}
 use Rattle.std.specs.Str.{chars}
 use Rattle.field_text.specs.Xml.{is_xml_space}
 use Rattle.rosa_pieces.specs.Reading.{◌>>=◌, past}
@@ -44,7 +45,8 @@ placed text (Err cs) = Err (place_before text cs)
 
 -- the state behind all tokens of a text, or the place at which they stop
 unfoldable pub read_all : State → List ℕ → Result State ℕ
-read_all start text = if nat_lt longest_text (length text) then Err longest_text else placed text (read_from start (past is_xml_space (chars text)))
+read_all start text = if nat_lt longest_text (length text) then Err longest_text
+    else placed text (read_from start (past is_xml_space (chars text)))
 
 abbrev pub or_place : {A : Type 0} → ℕ → Option A → Result A ℕ
 or_place at (Some x) = Ok x

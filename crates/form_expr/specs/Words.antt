@@ -2,7 +2,8 @@
 use Rattle.std.specs.Prelude.{ℕ, ◌==◌, nat_lt, not, Bool, true, if◌then◌else◌, List, codes, Option, Some, None}
 use Rattle.std.specs.Str.{bytes_eq}
 use Rattle.form_def.specs.declared.expr.Func.{Func}
-use Rattle.form_def.specs.declared.expr.Func.TheVariants.{Yes, No, Not, Selected, CountSelected, StringLength, Concat, Choose, Coalesce}
+use Rattle.form_def.specs.declared.expr.Func.TheVariants.{Yes, No, Not, Selected, CountSelected, StringLength, Concat}
+use Rattle.form_def.specs.declared.expr.Func.TheVariants.{Choose, Coalesce}
 use Rattle.form_def.specs.declared.expr.Op.{Op}
 use Rattle.form_def.specs.declared.expr.Op.TheVariants as op
 use Rattle.form_tokens.specs.declared.token.Token.{Token}

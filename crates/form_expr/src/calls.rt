@@ -1,6 +1,8 @@
 ghost use Rattle.std.specs.Prelude.{◌≡◌, IfOk, reverse, []};
 ghost use Rattle.rosa_pieces.specs.Reading.{Gives};
-ghost use Rattle.form_expr.specs.Machine.{when as when_wanted, behind as behind_of, opened_call as call_of, call_step as call_in_filter, named_step as named_of, is_open as opens, is_close as closes};
+ghost use Rattle.form_expr.specs.Machine.{when as when_wanted, behind as behind_of, opened_call as call_of};
+ghost use Rattle.form_expr.specs.Machine.{call_step as call_in_filter, named_step as named_of, is_open as opens};
+ghost use Rattle.form_expr.specs.Machine.{is_close as closes};
 ghost use Rattle.form_expr.specs.Reading.{state_of};
 ghost use Rattle.form_expr.specs.declared.syntax.Syntax.TheVariants.{Call};
 

@@ -1,6 +1,7 @@
 ghost use Rattle.std.specs.Prelude.{reverse};
 ghost use Rattle.rosa_pieces.specs.Reading.{Gives};
-ghost use Rattle.form_expr.specs.Machine.{outside_step as outside_of, group_step as group_of, word_step as word_of, name_step as name_of, operand_step as operand_of};
+ghost use Rattle.form_expr.specs.Machine.{outside_step as outside_of, group_step as group_of, word_step as word_of};
+ghost use Rattle.form_expr.specs.Machine.{name_step as name_of, operand_step as operand_of};
 ghost use Rattle.form_expr.specs.Reading.{state_of};
 
 use crate::Syntax;

@@ -1,6 +1,9 @@
 ghost use Rattle.std.specs.Prelude.{◌≡◌, IfOk, reverse, ◌∷◌, ◌++◌, []};
 ghost use Rattle.rosa_pieces.specs.Reading.{Gives};
-ghost use Rattle.form_expr.specs.Machine.{closed_call as closed_call_of, next_argument as next_argument_of, with_operator as operator_behind, close_step as close_of, comma_step as comma_of, bracket_step as bracket_of, end_step as end_of, operator_step as operator_of_step};
+ghost use Rattle.form_expr.specs.Machine.{closed_call as closed_call_of, next_argument as next_argument_of};
+ghost use Rattle.form_expr.specs.Machine.{with_operator as operator_behind, close_step as close_of};
+ghost use Rattle.form_expr.specs.Machine.{comma_step as comma_of, bracket_step as bracket_of, end_step as end_of};
+ghost use Rattle.form_expr.specs.Machine.{operator_step as operator_of_step};
 ghost use Rattle.form_expr.specs.Reading.{state_of};
 
 use crate::Syntax;

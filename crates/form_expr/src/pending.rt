@@ -1,6 +1,8 @@
 ghost use Rattle.std.specs.Prelude.{◌≡◌, IfOk, reverse};
 ghost use Rattle.std.specs.List.{list_any};
-ghost use Rattle.form_expr.specs.Machine.{is_open_pending as opens, is_filter as filters, is_itemset as stands_for_itemset, depth as depth_of, has_room as room, is_inside as inside, tightness as tightness_of, bound, bound_by};
+ghost use Rattle.form_expr.specs.Machine.{is_open_pending as opens, is_filter as filters};
+ghost use Rattle.form_expr.specs.Machine.{is_itemset as stands_for_itemset, depth as depth_of, has_room as room};
+ghost use Rattle.form_expr.specs.Machine.{is_inside as inside, tightness as tightness_of, bound, bound_by};
 
 use crate::Syntax;
 use crate::words::level;

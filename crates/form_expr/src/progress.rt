@@ -1,6 +1,8 @@
 ghost use Rattle.std.specs.Prelude.{◌≡◌, IfOk, reverse};
 ghost use Rattle.rosa_pieces.specs.Reading.{Gives};
-ghost use Rattle.form_expr.specs.Machine.{when_alone as whole_alone, behind as behind_of, before_operand as before_of, step, bound_by, expr_end as expr_ended, itemset_end as itemset_ended};
+ghost use Rattle.form_expr.specs.Machine.{when_alone as whole_alone, behind as behind_of};
+ghost use Rattle.form_expr.specs.Machine.{before_operand as before_of, step, bound_by, expr_end as expr_ended};
+ghost use Rattle.form_expr.specs.Machine.{itemset_end as itemset_ended};
 ghost use Rattle.form_expr.specs.Reading.{state_of};
 
 use crate::calls::{call_closing_step, call_opening_step, named_step};

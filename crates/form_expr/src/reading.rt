@@ -143,8 +143,8 @@ fn itemset_in(alloc: Global, text: &str) -> Result<Itemset, ExprFault>
     }
 }
 
-/// The expression that a text is: XPath 1.0 in a profile, with white space between tokens. A text that is none is refused
-/// at its first token with which no expression begins.
+/// The expression that a text is: XPath 1.0 in a profile, with white space between tokens. A text that is none is
+/// refused at its first token with which no expression begins.
 pub fn read_expr(alloc: Global, text: &str) -> Result<Syntax, ExprFault>
     ensures reads { Reads (λ syntax. syntax) result (expr_of text.now) }
     ensures found { IfOk result (λ syntax. Spells IsWholeExpr text.now syntax) }
@@ -154,8 +154,8 @@ pub fn read_expr(alloc: Global, text: &str) -> Result<Syntax, ExprFault>
     expr_in(alloc, text)
 }
 
-/// The itemset that a text is: the rows of a table, and the filter that chooses among them. A text that is none is refused
-/// as by `read_expr`.
+/// The itemset that a text is: the rows of a table, and the filter that chooses among them. A text that is none is
+/// refused as by `read_expr`.
 pub fn read_itemset(alloc: Global, text: &str) -> Result<Itemset, ExprFault>
     ensures reads { Reads (λ itemset. itemset) result (itemset_of text.now) }
     ensures found { IfOk result (λ itemset. Spells IsWholeItemset text.now itemset) }

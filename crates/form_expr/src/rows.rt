@@ -2,7 +2,10 @@ ghost use Rattle.std.specs.Prelude.{◌≡◌, reverse};
 ghost use Rattle.std.specs.List.{list_all};
 ghost use Rattle.rosa_pieces.specs.Reading.{Gives};
 ghost use Rattle.form_expr.specs.Words.{is_no_slash as no_slash};
-ghost use Rattle.form_expr.specs.Machine.{is_in_itemset as in_itemset, column_of_path as column_in_path, when as when_wanted, column_of as column_in, at, before_operand as before_of, is_open_bracket as opens_bracket, table_step as table_of, value_step as value_of};
+ghost use Rattle.form_expr.specs.Machine.{is_in_itemset as in_itemset, column_of_path as column_in_path};
+ghost use Rattle.form_expr.specs.Machine.{when as when_wanted, column_of as column_in, at};
+ghost use Rattle.form_expr.specs.Machine.{before_operand as before_of, is_open_bracket as opens_bracket};
+ghost use Rattle.form_expr.specs.Machine.{table_step as table_of, value_step as value_of};
 ghost use Rattle.form_expr.specs.Reading.{state_of};
 ghost use Rattle.form_expr.specs.declared.pending.Pending.TheVariants.{Filter};
 

@@ -1,6 +1,9 @@
 ghost use Rattle.std.specs.Prelude.{◌≡◌};
-ghost use Rattle.form_expr.specs.Words.{named_operator as operator_named, operator_of as operator, function_of as function_named, arguments as arguments_of, may_take as may_be_taken, takes_more as more_taken};
-ghost use Rattle.form_expr.specs.Machine.{is_open as opens, is_close as closes, is_open_bracket as opens_bracket, is_instance as is_word_instance, is_rows as is_path_of_rows};
+ghost use Rattle.form_expr.specs.Words.{named_operator as operator_named, operator_of as operator};
+ghost use Rattle.form_expr.specs.Words.{function_of as function_named, arguments as arguments_of};
+ghost use Rattle.form_expr.specs.Words.{may_take as may_be_taken, takes_more as more_taken};
+ghost use Rattle.form_expr.specs.Machine.{is_open as opens, is_close as closes, is_open_bracket as opens_bracket};
+ghost use Rattle.form_expr.specs.Machine.{is_instance as is_word_instance, is_rows as is_path_of_rows};
 ghost use Rattle.form_expr.specs.Precedence.{level as level_of};
 
 use field_text::Text;

@@ -50,7 +50,8 @@ listed_fault entry item =
 
 -- the attribute `type` has this value, as it is written
 abbrev pub is_entity_list : Element → Bool
-is_entity_list e = option_map_or (λ kind. bytes_eq kind (codes "entityList")) (attribute_of (codes "type") e.attributes) false
+is_entity_list e =
+    option_map_or (λ kind. bytes_eq kind (codes "entityList")) (attribute_of (codes "type") e.attributes) false
 
 abbrev pub media_file_of : Element → MediaFile
 media_file_of e = record {

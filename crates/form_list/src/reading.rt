@@ -2,7 +2,8 @@ ghost use Rattle.std.specs.Prelude.{◌≡◌, ◌⊎◌, ℕ, Option, IfOk, IfE
 ghost use Rattle.std.specs.Option.{option_copied};
 ghost use Rattle.rosa_doc.specs.declared.tree.Element.{Element};
 ghost use Rattle.form_list.specs.declared.refusal.ListRefused.{ListRefused};
-ghost use Rattle.form_list.specs.Entries.{bad_hash, first_fault, is_entity_list, listed_fault, listed_of, media_file_fault, media_file_of, missing, unless_empty};
+ghost use Rattle.form_list.specs.Entries.{bad_hash, first_fault, is_entity_list, listed_fault, listed_of};
+ghost use Rattle.form_list.specs.Entries.{media_file_fault, media_file_of, missing, unless_empty};
 ghost use Rattle.form_list.specs.Lists.{Gives, Reads, entries, entry_in, form_list, items_of, manifest, refused};
 
 use crate::{Child, ListRefused, Listed, MediaFile};
@@ -162,7 +163,8 @@ fn read_entries<E: Entry>(
 ) -> Result<Items<E>, ListRefused>
     ensures ok { IfOk result (λ items. items ≡ map E.item (entries name.now nodes.now)) }
     ensures faultless { OnOk result (first_fault E.fault 1 (map E.item (entries name.now nodes.now)) ≡ None) }
-    ensures refused { IfErr result (λ e. (e ≡ ListRefused.NoMemory) ⊎ (first_fault E.fault 1 (map E.item (entries name.now nodes.now)) ≡ Some e)) }
+    ensures refused { IfErr result (λ e. (e ≡ ListRefused.NoMemory)
+        ⊎ (first_fault E.fault 1 (map E.item (entries name.now nodes.now)) ≡ Some e)) }
 {
     let mut items = Items::new(alloc);
     let mut rest = nodes;

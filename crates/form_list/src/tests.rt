@@ -54,7 +54,8 @@ fn other_lists_are_refused(rt: HostRuntime) -> Result<(), Fail> {
 fn lists_are_read(rt: HostRuntime) -> Result<(), Fail> {
     let alloc = rt.alloc();
     let document = std::format!(in alloc;
-        "<x:xforms xmlns:x='y'><z/><xform><downloadUrl>/a</downloadUrl><formID> a </formID><hash>{HASH}</hash></xform></x:xforms>"
+        "<x:xforms xmlns:x='y'><z/><xform><downloadUrl>/a</downloadUrl>\
+            <formID> a </formID><hash>{HASH}</hash></xform></x:xforms>"
     )?;
     let forms = read_list(alloc, document.as_bytes())?;
     let form = forms.get(0).ok_or("no form")?;
@@ -64,7 +65,8 @@ fn lists_are_read(rt: HostRuntime) -> Result<(), Fail> {
     assert!(rt; form.name.as_str() == "" && form.manifest.is_none());
     let written = write_list(alloc, forms.as_slice())?;
     let want = std::format!(in alloc;
-        "<xforms xmlns=\"http://openrosa.org/xforms/xformsList\"><xform><formID>a</formID><name></name><version></version><hash>{HASH}</hash><downloadUrl>/a</downloadUrl></xform></xforms>"
+        "<xforms xmlns=\"http://openrosa.org/xforms/xformsList\"><xform><formID>a</formID>\
+            <name></name><version></version><hash>{HASH}</hash><downloadUrl>/a</downloadUrl></xform></xforms>"
     )?;
     assert!(rt; written.bytes() == want.as_bytes());
     Ok(())
@@ -74,7 +76,8 @@ fn lists_are_read(rt: HostRuntime) -> Result<(), Fail> {
 fn manifests_are_read(rt: HostRuntime) -> Result<(), Fail> {
     let alloc = rt.alloc();
     let document = std::format!(in alloc;
-        "<manifest><mediaFile type='entityList'><filename>t.csv</filename><hash>{HASH}</hash><downloadUrl>/t</downloadUrl></mediaFile></manifest>"
+        "<manifest><mediaFile type='entityList'><filename>t.csv</filename>\
+            <hash>{HASH}</hash><downloadUrl>/t</downloadUrl></mediaFile></manifest>"
     )?;
     let files = read_manifest(alloc, document.as_bytes())?;
     let file = files.get(0).ok_or("no file")?;

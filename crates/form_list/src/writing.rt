@@ -1,7 +1,8 @@
 ghost use Rattle.std.specs.Prelude.{◌≡◌, ◌++◌, IfOk, OnOk, codes};
 ghost use Rattle.std.specs.List.{flat_map};
 ghost use Rattle.rosa_nodes.specs.Writing.{end_text, leaf, leaf_text, start_text};
-ghost use Rattle.form_list.specs.Writing.{file_leaves, file_start, file_text, form_leaves, form_text, list_start, list_text, manifest_leaf, manifest_start, manifest_text};
+ghost use Rattle.form_list.specs.Writing.{file_leaves, file_start, file_text, form_leaves, form_text, list_start};
+ghost use Rattle.form_list.specs.Writing.{list_text, manifest_leaf, manifest_start, manifest_text};
 
 use crate::{Listed, MediaFile};
 use field_text::{Blob, NoMemory, Text};

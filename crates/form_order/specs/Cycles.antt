@@ -19,9 +19,10 @@ NoCycle fields = (number : ℕ) → ¬ (DependsOn fields number number)
 
 -- the first number below the count that leads to itself
 abbrev pub IsFirstCycle : (ℕ → List ℕ) → ℕ → ℕ → Type 0
-IsFirstCycle needs count number = (number < count) × Leads needs number number × ((k : ℕ) → k < number → ¬ (Leads needs k k))
+IsFirstCycle needs count number =
+    (number < count) × Leads needs number number × ((k : ℕ) → k < number → ¬ (Leads needs k k))
 
--- why there is no order: the first field in document order that depends on itself
+-- why there is no order: of the fields that depend on themselves, the one of the least number
 abbrev pub Refuses : List Field → OrderFault → Type 0
 Refuses fields (Cycle number) = IsFirstCycle (dependencies_at fields) (length fields) number
 Refuses fields NoMemory = Unit {0}

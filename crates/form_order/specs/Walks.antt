@@ -1,5 +1,6 @@
 -- A walk over rows: from each number to those that it needs, until these are placed.
-use Rattle.std.specs.Prelude.{ℕ, ◌≡◌, ◌≢◌, ◌+◌, ◌<◌, Bool, true, false, List, [], ◌∷◌, ◌++◌, length, All, AllPairs, Contains, sum_by, slice_set, replicate}
+use Rattle.std.specs.Prelude.{ℕ, ◌≡◌, ◌≢◌, ◌+◌, ◌<◌, Bool, true, false, List, [], ◌∷◌, ◌++◌, length, All, AllPairs}
+use Rattle.std.specs.Prelude.{Contains, sum_by, slice_set, replicate}
 use Rattle.std.specs.List.{slice_index_or}
 use Rattle.form_def.specs.Order.{is_among, are_ordered}
 use Rattle.form_order.specs.declared.walk.Mark.{Mark}
@@ -23,10 +24,20 @@ abbrev pub unwalked : ℕ → Walk
 unwalked count = record { marks = replicate count New; path = []; order = []; passed = replicate count 0 }
 
 abbrev pub entered : Walk → ℕ → Walk
-entered w number = record { marks = slice_set w.marks number OnPath; path = w.path ++ number ∷ []; order = w.order; passed = w.passed }
+entered w number = record {
+  marks = slice_set w.marks number OnPath;
+  path = w.path ++ number ∷ [];
+  order = w.order;
+  passed = w.passed;
+}
 
 abbrev pub placed : Walk → ℕ → Walk
-placed w number = record { marks = slice_set w.marks number Placed; path = w.path; order = w.order ++ number ∷ []; passed = w.passed }
+placed w number = record {
+  marks = slice_set w.marks number Placed;
+  path = w.path;
+  order = w.order ++ number ∷ [];
+  passed = w.passed;
+}
 
 abbrev pub with_last : Walk → ℕ → Walk
 with_last w number = record { marks = w.marks; path = w.path ++ number ∷ []; order = w.order; passed = w.passed }
@@ -56,7 +67,8 @@ pub record IsWalk (needs : ℕ → List ℕ) (count : ℕ) (w : Walk) : Type 0 w
   pub path_differs : AllPairs (λ a b. a ≢ b) w.path
   pub passed_long : length w.passed ≡ count
   -- of those that a number needs, so many from the front are placed
-  pub passed_are : (a k : ℕ) → k < slice_index_or w.passed a 0 → k < length (needs a) → is_placed_at w.marks (needs a) k ≡ true
+  pub passed_are : (a k : ℕ) → k < slice_index_or w.passed a 0 → k < length (needs a)
+      → is_placed_at w.marks (needs a) k ≡ true
 
 abbrev pub HasCycle : (ℕ → List ℕ) → Type 0
 HasCycle needs = (number : ℕ) × Leads needs number number

@@ -16,7 +16,8 @@ use std::alloc::Global;
 /// An order by these rows, none if a number leads to itself.
 fn walk_all(alloc: Global, rows: &[Items<u64>]) -> Result<Option<Items<u64>>, NoMemory>
     requires { AreWithin rows.now }
-    ensures { IfOk result (λ found. MatchOption found (HasCycle (row_at rows.now)) (λ order. IsOrder (row_at rows.now) (length rows.now) order)) }
+    ensures { IfOk result (λ found. MatchOption found (HasCycle (row_at rows.now))
+        (λ order. IsOrder (row_at rows.now) (length rows.now) order)) }
 {
     let mut walk = Walk::new(alloc, rows.len())?;
     for number in 0..rows.len() as u64 {

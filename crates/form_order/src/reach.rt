@@ -74,7 +74,7 @@ fn leads_to_itself(alloc: Global, rows: &[Items<u64>], number: u64) -> Result<bo
     Ok(is_marked(reach.marks.as_slice(), number))
 }
 
-/// The first field in document order that depends on itself, where there is one.
+/// Of the fields that depend on themselves, the one of the least number, where there are any.
 pub fn first_cycle(alloc: Global, rows: &[Items<u64>]) -> Result<u64, NoMemory>
     requires within { AreWithin rows.now }
     requires cycle { HasCycle (row_at rows.now) }

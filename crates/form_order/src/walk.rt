@@ -34,7 +34,8 @@ fn mark_at(marks: &[Mark], number: u64) -> Mark
 fn first_open(marks: &[Mark], numbers: &[u64], from: usize) -> Option<usize>
     ensures { MatchOption result
         ((k : ℕ) → from ≤ k → k < length numbers.now → is_placed_at marks.now numbers.now k ≡ true)
-        (λ place. (place < length numbers.now) × (is_placed_at marks.now numbers.now place ≡ false) × ((k : ℕ) → from ≤ k → k < place → is_placed_at marks.now numbers.now k ≡ true)) }
+        (λ place. (place < length numbers.now) × (is_placed_at marks.now numbers.now place ≡ false)
+        × ((k : ℕ) → from ≤ k → k < place → is_placed_at marks.now numbers.now k ≡ true)) }
 {
     for place in from..numbers.len() {
         if !is_placed(mark_at(marks, numbers[place])) {
@@ -63,7 +64,8 @@ pub struct Walk {
 impl Walk {
     ghost use Rattle.std.specs.Prelude.{[], IfOk, OnOk, MatchBool, Contains};
     ghost use Rattle.form_order.specs.Rows.{row as row_at, AreWithin};
-    ghost use Rattle.form_order.specs.Walks.{unwalked, entered, placed, with_last, IsWalk, HasCycle, TakesTurn, Finishes, Visits};
+    ghost use Rattle.form_order.specs.Walks.{unwalked, entered, placed, with_last, IsWalk, HasCycle, TakesTurn};
+    ghost use Rattle.form_order.specs.Walks.{Finishes, Visits};
 
     pub fn new(alloc: Global, count: usize) -> Result<Walk, NoMemory>
         ensures { IfOk result (λ walk. walk ≡ unwalked count) }
@@ -103,7 +105,8 @@ impl Walk {
         requires walk { IsWalk (row_at rows.now) (length rows.now) (with_last self.old number) }
         requires needed { Contains (row_at rows.now number) next }
         requires unplaced { is_placed (mark_at self.old.marks next) ≡ false }
-        ensures { IfOk result (λ on. MatchBool on (TakesTurn (row_at rows.now) (length rows.now) self.old self.new) (HasCycle (row_at rows.now))) }
+        ensures { IfOk result (λ on. MatchBool on (TakesTurn (row_at rows.now) (length rows.now) self.old self.new)
+            (HasCycle (row_at rows.now))) }
     {
         if mark_at(self.marks.as_slice(), next) == Mark::OnPath {
             return Ok(false);
@@ -117,7 +120,8 @@ impl Walk {
     fn turn(&mut self, rows: &[Items<u64>], number: u64) -> Result<bool, NoMemory>
         requires within { AreWithin rows.now }
         requires walk { IsWalk (row_at rows.now) (length rows.now) (with_last self.old number) }
-        ensures { IfOk result (λ on. MatchBool on (TakesTurn (row_at rows.now) (length rows.now) self.old self.new) (HasCycle (row_at rows.now))) }
+        ensures { IfOk result (λ on. MatchBool on (TakesTurn (row_at rows.now) (length rows.now) self.old self.new)
+            (HasCycle (row_at rows.now))) }
     {
         let numbers = row(rows, number);
         let from = passed_at(self.passed.as_slice(), number);
@@ -137,7 +141,8 @@ impl Walk {
     fn finish(&mut self, rows: &[Items<u64>]) -> Result<bool, NoMemory>
         requires within { AreWithin rows.now }
         requires walk { IsWalk (row_at rows.now) (length rows.now) self.old }
-        ensures { IfOk result (λ on. MatchBool on (Finishes (row_at rows.now) (length rows.now) self.old self.new) (HasCycle (row_at rows.now))) }
+        ensures { IfOk result (λ on. MatchBool on (Finishes (row_at rows.now) (length rows.now) self.old self.new)
+            (HasCycle (row_at rows.now))) }
     {
         while let Some(number) = self.path.pop() {
             if !self.turn(rows, number)? {
@@ -153,7 +158,8 @@ impl Walk {
         requires walk { IsWalk (row_at rows.now) (length rows.now) self.old }
         requires no_path { self.old.path ≡ [] }
         requires field { number < length rows.now }
-        ensures { IfOk result (λ on. MatchBool on (Visits (row_at rows.now) (length rows.now) number self.old self.new) (HasCycle (row_at rows.now))) }
+        ensures { IfOk result (λ on. MatchBool on (Visits (row_at rows.now)
+            (length rows.now) number self.old self.new) (HasCycle (row_at rows.now))) }
     {
         if mark_at(self.marks.as_slice(), number) != Mark::New {
             return Ok(true);

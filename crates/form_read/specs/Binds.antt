@@ -1,5 +1,7 @@
--- What binds say (ODK XForms, "Bindings"). The first bind of a field counts, and the others are unread with their faults.
-use Rattle.std.specs.Prelude.{ℕ, Bool, true, false, if◌then◌else◌, List, ◌∷◌, ◌++◌, codes, nat_eq, Option, Some, None, Result, Ok, Err, find, option_and_then, slice_set}
+-- What binds say (ODK XForms, "Bindings"). The first bind of a field counts, and the others are unread with their
+-- faults.
+use Rattle.std.specs.Prelude.{ℕ, Bool, true, false, if◌then◌else◌, List, ◌∷◌, ◌++◌, codes, nat_eq, Option, Some, None}
+use Rattle.std.specs.Prelude.{Result, Ok, Err, find, option_and_then, slice_set}
 use Rattle.std.specs.List.{starts_with, slice_index_or}
 use Rattle.std.specs.Str.{bytes_eq}
 use Rattle.form_outline.specs.declared.outline.Bind.{Bind}
@@ -48,7 +50,14 @@ bound_by scope bind = do
   required ← optional_at scope bind.nodeset bind.required
   readonly ← optional_at scope bind.nodeset bind.readonly
   calculate ← optional_at scope bind.nodeset bind.calculate
-  Ok (record { relevant = relevant; constraint = constraint; required = required; readonly = readonly; calculate = calculate; saveto = bind.saveto })
+  Ok (record {
+    relevant = relevant;
+    constraint = constraint;
+    required = required;
+    readonly = readonly;
+    calculate = calculate;
+    saveto = bind.saveto;
+  })
 
 abbrev pub is_given : {A : Type 0} → Option A → Bool
 is_given (Some x) = true
@@ -57,7 +66,8 @@ is_given None = false
 -- a field that is bound already keeps what its first bind says
 abbrev pub field_bound : Scope → Draft → Bind → ℕ → Result Draft FormRefused
 field_bound scope d bind number =
-    if is_given (slice_index_or d.bounds number None) then Ok d else (bound_by scope bind >>= λ bound. Ok (record d { bounds = slice_set d.bounds number (Some bound) }))
+    if is_given (slice_index_or d.bounds number None) then Ok d
+    else (bound_by scope bind >>= λ bound. Ok (record d { bounds = slice_set d.bounds number (Some bound) }))
 
 -- a nodeset in `meta` that is no field is skipped
 abbrev pub no_field_bound : Scope → Draft → Bind → Result Draft FormRefused

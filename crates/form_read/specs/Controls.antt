@@ -1,6 +1,7 @@
--- What controls say (ODK XForms, "Body"): one for a field at most, its kind by its name and by the type of the field's bind, and the
--- values that a select offers.
-use Rattle.std.specs.Prelude.{ℕ, Bool, true, ◌||◌, if◌then◌else◌, List, [], ◌∷◌, ◌++◌, codes, Option, Some, None, Result, Ok, Err, slice_set, unwrap_or}
+-- What controls say (ODK XForms, "Body"): one for a field at most, its kind by its name and by the type of the
+-- field's bind, and the values that a select offers.
+use Rattle.std.specs.Prelude.{ℕ, Bool, true, ◌||◌, if◌then◌else◌, List, [], ◌∷◌, ◌++◌, codes, Option, Some, None}
+use Rattle.std.specs.Prelude.{Result, Ok, Err, slice_set, unwrap_or}
 use Rattle.std.specs.List.{slice_index_or}
 use Rattle.std.specs.Str.{bytes_eq}
 use Rattle.form_read.specs.Lists.{is_empty}
@@ -17,7 +18,8 @@ use Rattle.form_outline.specs.declared.outline.ControlPart.{ControlPart}
 use Rattle.form_outline.specs.declared.outline.ControlPart.TheVariants as part
 use Rattle.form_outline.specs.declared.outline.Control.{Control}
 use Rattle.form_read.specs.declared.refusal.FormRefused.{FormRefused}
-use Rattle.form_read.specs.declared.refusal.FormRefused.TheVariants.{UnknownPath, UnknownControl, UnknownType, UnknownList}
+use Rattle.form_read.specs.declared.refusal.FormRefused.TheVariants.{UnknownPath, UnknownControl, UnknownType}
+use Rattle.form_read.specs.declared.refusal.FormRefused.TheVariants.{UnknownList}
 use Rattle.form_read.specs.declared.scope.Scope.{Scope}
 use Rattle.form_read.specs.declared.draft.Asked.{Asked}
 use Rattle.form_read.specs.declared.draft.Offer.{Offer}
@@ -38,18 +40,21 @@ is_control name = is_input name || is_select_one name || bytes_eq name (codes "s
 
 abbrev pub input_kind : List ℕ → Option (List ℕ) → Result Kind FormRefused
 input_kind path None = Ok kind.Words
-input_kind path (Some data_type) = if bytes_eq data_type (codes "string") then Ok kind.Words else if bytes_eq data_type (codes "int") then Ok kind.Whole else Err (UnknownType path)
+input_kind path (Some data_type) = if bytes_eq data_type (codes "string") then Ok kind.Words
+    else if bytes_eq data_type (codes "int") then Ok kind.Whole else Err (UnknownType path)
 
 abbrev pub is_select_type : Option (List ℕ) → Bool
 is_select_type None = true
-is_select_type (Some data_type) = bytes_eq data_type (codes "string") || bytes_eq data_type (codes "select1") || bytes_eq data_type (codes "select")
+is_select_type (Some data_type) =
+    bytes_eq data_type (codes "string") || bytes_eq data_type (codes "select1") || bytes_eq data_type (codes "select")
 
 abbrev pub select_kind : List ℕ → Kind → Option (List ℕ) → Result Kind FormRefused
 select_kind path k data_type = if is_select_type data_type then Ok k else Err (UnknownType path)
 
 -- the kind of the field of a path under a control of this name
 abbrev pub control_kind : List ℕ → List ℕ → Option (List ℕ) → Result Kind FormRefused
-control_kind name path data_type = if is_input name then input_kind path data_type else if is_select_one name then select_kind path kind.One data_type else select_kind path kind.Many data_type
+control_kind name path data_type = if is_input name then input_kind path data_type
+    else if is_select_one name then select_kind path kind.One data_type else select_kind path kind.Many data_type
 
 abbrev pub part_name : ControlPart → List ℕ
 part_name (part.Item value) = codes "item"
@@ -71,7 +76,8 @@ value_column value = unwrap_or value (codes "name")
 
 abbrev pub rows_resolved : Scope → List ℕ → Option (List ℕ) → Itemset → Result Choices FormRefused
 rows_resolved scope path value itemset =
-    if is_declared scope itemset.table then (filter_resolved scope path itemset.filter >>= λ filter. Ok (choices.Rows itemset.table filter (value_column value))) else Err (UnknownList itemset.table)
+    if is_declared scope itemset.table then (filter_resolved scope path itemset.filter >>= λ filter.
+    Ok (choices.Rows itemset.table filter (value_column value))) else Err (UnknownList itemset.table)
 
 unfoldable pub rows_offered : Scope → List ℕ → ItemsetPart → Result Choices FormRefused
 rows_offered scope path i = do
@@ -82,7 +88,8 @@ rows_offered scope path i = do
 abbrev pub part_offered : Scope → List ℕ → Offer → ControlPart → Result Offer FormRefused
 part_offered scope path o (part.Item None) = Ok o
 part_offered scope path o (part.Item (Some value)) = Ok (record o { values = o.values ++ value ∷ [] })
-part_offered scope path o (part.Itemset i) = if is_given o.rows then Ok o else (rows_offered scope path i >>= λ rows. Ok (record o { rows = Some rows }))
+part_offered scope path o (part.Itemset i) =
+    if is_given o.rows then Ok o else (rows_offered scope path i >>= λ rows. Ok (record o { rows = Some rows }))
 part_offered scope path o (part.Other name) = Err (UnknownControl name)
 
 abbrev pub parts_offered : Scope → List ℕ → Offer → List ControlPart → Result Offer FormRefused
@@ -113,11 +120,13 @@ asked_by scope c = do
 
 abbrev pub field_asked : Scope → Draft → Control → ℕ → Result Draft FormRefused
 field_asked scope d c number =
-    if is_given (slice_index_or d.asked number None) then Err (UnknownControl c.name) else (asked_by scope c >>= λ asked. Ok (record d { asked = slice_set d.asked number (Some asked) }))
+    if is_given (slice_index_or d.asked number None) then Err (UnknownControl c.name)
+    else (asked_by scope c >>= λ asked. Ok (record d { asked = slice_set d.asked number (Some asked) }))
 
 abbrev pub asked_at : Scope → Draft → Control → Option ℕ → Result Draft FormRefused
 asked_at scope d c None = Err (UnknownPath c.target)
 asked_at scope d c (Some number) = field_asked scope d c number
 
 unfoldable pub control_taken : Scope → Draft → Control → Result Draft FormRefused
-control_taken scope d c = if is_control c.name then asked_at scope d c (leaf_of scope.slots c.target) else Err (UnknownControl c.name)
+control_taken scope d c =
+    if is_control c.name then asked_at scope d c (leaf_of scope.slots c.target) else Err (UnknownControl c.name)

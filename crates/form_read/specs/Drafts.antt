@@ -38,7 +38,8 @@ controls_taken scope d [] = Ok d
 controls_taken scope d (c ∷ cs) = control_taken scope d c >>= λ next. controls_taken scope next cs
 
 abbrev pub empty_draft : List PrimaryField → Draft
-empty_draft slots = record { bounds = map (λ s. None) slots; asked = map (λ s. None) slots; inner = []; outer = []; draws_id = false }
+empty_draft slots =
+    record { bounds = map (λ s. None) slots; asked = map (λ s. None) slots; inner = []; outer = []; draws_id = false }
 
 -- the head and the body, whichever stands first
 unfoldable pub head_first : Scope → List PrimaryPart → List Control → Draft → Result Draft FormRefused
@@ -52,7 +53,8 @@ body_first scope primary controls d = do
   model_taken scope primary next scope.model
 
 abbrev pub all_taken : Bool → Scope → List PrimaryPart → List Control → Draft → Result Draft FormRefused
-all_taken is_body_first scope primary controls d = if is_body_first then body_first scope primary controls d else head_first scope primary controls d
+all_taken is_body_first scope primary controls d =
+    if is_body_first then body_first scope primary controls d else head_first scope primary controls d
 
 abbrev pub most_fields : ℕ
 most_fields = 500
@@ -61,7 +63,8 @@ abbrev pub scope_of : Outline → Scope
 scope_of o = record { root = o.root; slots = slots_of o.primary; model = o.model }
 
 abbrev pub taken_unless_many : Outline → Scope → Result Draft FormRefused
-taken_unless_many o scope = if nat_lt most_fields (length scope.slots) then Err (TooManyFields (length scope.slots)) else all_taken o.body_first scope o.primary o.controls (empty_draft scope.slots)
+taken_unless_many o scope = if nat_lt most_fields (length scope.slots) then Err (TooManyFields (length scope.slots))
+    else all_taken o.body_first scope o.primary o.controls (empty_draft scope.slots)
 
 -- what the parts of a document say, or the first refusal
 unfoldable pub draft_of : Outline → Result Draft FormRefused

@@ -1,4 +1,5 @@
--- The expression that a text stands for: its paths are looked up among the fields, and its tables among the secondary instances.
+-- The expression that a text stands for: its paths are looked up among the fields, and its tables among the secondary
+-- instances.
 use Rattle.std.specs.Prelude.{ℕ, Bool, false, if◌then◌else◌, List, [], ◌∷◌, Option, Some, None, Result, Ok, Err}
 use Rattle.std.specs.List.{list_any}
 use Rattle.std.specs.Str.{bytes_eq}

@@ -1,5 +1,6 @@
 -- The form that a document describes (ODK XForms in a profile), or what it is refused for first.
-use Rattle.std.specs.Prelude.{◌≡◌, ℕ, Bool, true, false, if◌then◌else◌, List, [], ◌∷◌, codes, length, Option, Some, None, Result, Ok, Err, option_map, slice_get}
+use Rattle.std.specs.Prelude.{◌≡◌, ℕ, Bool, true, false, if◌then◌else◌, List, [], ◌∷◌, codes, length, Option, Some}
+use Rattle.std.specs.Prelude.{None, Result, Ok, Err, option_map, slice_get}
 use Rattle.std.specs.Str.{bytes_eq}
 use Rattle.form_def.specs.declared.field.Kind.TheVariants as kind
 use Rattle.form_def.specs.declared.field.Choices.TheVariants as choices
@@ -35,13 +36,14 @@ use Rattle.form_read.specs.Drafts.{scope_of, draft_of}
 
 -- a field without a bind
 abbrev pub unbound : Bound
-unbound = record { relevant = None; constraint = None; required = None; readonly = None; calculate = None; saveto = None }
+unbound =
+    record { relevant = None; constraint = None; required = None; readonly = None; calculate = None; saveto = None }
 
 abbrev pub bound_in : Option Bound → Bound
 bound_in None = unbound
 bound_in (Some bound) = bound
 
--- a leaf without a control is plain, whatever its type
+-- a field that no control asks is plain, or a group where it holds others
 abbrev pub asked_in : Bool → Option Asked → Asked
 asked_in is_group None = record { kind = if is_group then kind.Group else kind.Plain; choices = choices.Nothing }
 asked_in is_group (Some asked) = asked
@@ -73,7 +75,8 @@ fields_of (s ∷ ss) (b ∷ bs) (a ∷ rest) = field_of s b a ∷ fields_of ss b
 -- the first submission counts; another value than these is as none
 abbrev pub auto_send_by : Option (List ℕ) → Option Bool
 auto_send_by None = None
-auto_send_by (Some value) = if bytes_eq value (codes "true") then Some true else if bytes_eq value (codes "false") then Some false else None
+auto_send_by (Some value) =
+    if bytes_eq value (codes "true") then Some true else if bytes_eq value (codes "false") then Some false else None
 
 abbrev pub auto_send_in : List ModelPart → Option Bool
 auto_send_in [] = None
@@ -161,11 +164,12 @@ pub record IsFormOf (outline : Outline) (form : FormDef) : Type 0 where
   pub parts : parts_of_form form ≡ parts_of outline draft form.order
   pub no_cycle : NoCycle (fields_in outline draft)
 
--- Why the parts of an outline are no form: the first of them in document order that is refused, or the first of its fields that
--- depends on itself.
+-- Why the parts of an outline are no form: the first of them in document order that is refused, or the first of its
+-- fields that depends on itself.
 pub data RefusesParts (outline : Outline) : FormRefused → Type 0 where
   by_part : (refusal : FormRefused) → draft_of outline ≡ Err refusal → RefusesParts outline refusal
-  by_cycle : (draft : Draft) (path : List ℕ) → draft_of outline ≡ Ok draft → IsCycle (fields_in outline draft) path → RefusesParts outline (Cycle path)
+  by_cycle : (draft : Draft) (path : List ℕ) → draft_of outline ≡ Ok draft → IsCycle (fields_in outline draft) path
+      → RefusesParts outline (Cycle path)
   by_memory : RefusesParts outline NoMemory
 
 -- the bytes are a document that describes this form

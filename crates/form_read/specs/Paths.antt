@@ -1,5 +1,7 @@
--- The paths in expressions (XPath 1.0, section 2): absolute ones, and those that climb from the field whose expression it is.
-use Rattle.std.specs.Prelude.{ℕ, Bool, not, ◌&&◌, ◌==◌, if◌then◌else◌, List, [], ◌∷◌, ◌++◌, Option, Some, None, position, codes, option_and_then}
+-- The paths in expressions (XPath 1.0, section 2): absolute ones, and those that climb from the field whose
+-- expression it is.
+use Rattle.std.specs.Prelude.{ℕ, Bool, not, ◌&&◌, ◌==◌, if◌then◌else◌, List, [], ◌∷◌, ◌++◌, Option, Some, None}
+use Rattle.std.specs.Prelude.{position, codes, option_and_then}
 use Rattle.std.specs.List.{list_any, starts_with}
 use Rattle.std.specs.Str.{bytes_eq}
 use Rattle.std.specs.Prelude.{nat_eq}
@@ -23,7 +25,8 @@ climbed own [] = Some (own ++ 47 ∷ [])
 climbed own (a ∷ []) = Some (own ++ 47 ∷ a ∷ [])
 climbed own (a ∷ b ∷ []) = Some (own ++ 47 ∷ a ∷ b ∷ [])
 climbed own (a ∷ b ∷ c ∷ steps) =
-    if is_step a b c then (if is_empty own then None else climbed (parent_path own) steps) else Some (own ++ 47 ∷ a ∷ b ∷ c ∷ steps)
+    if is_step a b c then (if is_empty own then None else climbed (parent_path own) steps)
+    else Some (own ++ 47 ∷ a ∷ b ∷ c ∷ steps)
 
 abbrev pub is_absolute : List ℕ → Bool
 is_absolute path = starts_with nat_eq path (codes "/")

@@ -1,5 +1,7 @@
--- What the primary instance is refused for: a second field of one path, and an entity that is the second or lacks a dataset.
-use Rattle.std.specs.Prelude.{ℕ, Bool, true, false, if◌then◌else◌, List, [], ◌∷◌, ◌++◌, codes, Option, Some, None, Result, Ok, Err}
+-- What the primary instance is refused for: a second field of one path, and an entity that is the second or lacks a
+-- dataset.
+use Rattle.std.specs.Prelude.{ℕ, Bool, true, false, if◌then◌else◌, List, [], ◌∷◌, ◌++◌, codes, Option, Some, None}
+use Rattle.std.specs.Prelude.{Result, Ok, Err}
 use Rattle.std.specs.List.{list_any}
 use Rattle.std.specs.Str.{bytes_eq}
 use Rattle.form_outline.specs.declared.outline.PrimaryField.{PrimaryField}
@@ -29,11 +31,13 @@ is_no_entity has_entity None = true
 is_no_entity has_entity (Some dataset) = has_entity
 
 abbrev pub field_taken : Seen → PrimaryField → Result Seen FormRefused
-field_taken seen f = path_taken seen.paths f.path >>= λ paths. Ok (record { paths = paths; has_entity = seen.has_entity })
+field_taken seen f =
+    path_taken seen.paths f.path >>= λ paths. Ok (record { paths = paths; has_entity = seen.has_entity })
 
 abbrev pub entity_taken : List ℕ → Seen → EntityPart → Result Seen FormRefused
 entity_taken root seen e =
-    if is_no_entity seen.has_entity e.dataset then Err (BadEntity (entity_path root)) else (paths_taken seen.paths e.fields >>= λ paths. Ok (record { paths = paths; has_entity = true }))
+    if is_no_entity seen.has_entity e.dataset then Err (BadEntity (entity_path root))
+    else (paths_taken seen.paths e.fields >>= λ paths. Ok (record { paths = paths; has_entity = true }))
 
 abbrev pub part_taken : List ℕ → Seen → PrimaryPart → Result Seen FormRefused
 part_taken root seen (Field f) = field_taken seen f

@@ -1,7 +1,9 @@
 -- Steps that may be refused: the first refusal is the answer.
 use Rattle.std.specs.Prelude.{◌≡◌, Result, Ok, Err}
 use Rattle.form_read.specs.declared.refusal.FormRefused.{FormRefused}
-use Rattle.form_read.specs.declared.refusal.FormRefused.TheVariants.{Doc, NoPrimary, NoId, BadExpr, UnknownPath, UnknownControl, UnknownType, Cycle, UnknownList, TooManyFields, BadEntity, NoMemory}
+use Rattle.form_read.specs.declared.refusal.FormRefused.TheVariants.{Doc, NoPrimary, NoId, BadExpr, UnknownPath}
+use Rattle.form_read.specs.declared.refusal.FormRefused.TheVariants.{UnknownControl, UnknownType, Cycle, UnknownList}
+use Rattle.form_read.specs.declared.refusal.FormRefused.TheVariants.{TooManyFields, BadEntity, NoMemory}
 
 infixl 10 ◌>>=◌
 abbrev pub ◌>>=◌ : {A B : Type 0} → Result A FormRefused → (A → Result B FormRefused) → Result B FormRefused

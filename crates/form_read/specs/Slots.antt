@@ -1,5 +1,5 @@
--- The fields that a form has, by number, before their binds and controls: those of the primary instance in document order, and
--- then those of `meta`, of which the first entity counts.
+-- The fields that a form has, by number, before their binds and controls: those of the primary instance in document
+-- order, and then those of `meta`, of which the first entity counts.
 use Rattle.std.specs.Prelude.{ℕ, Bool, true, false, ◌||◌, if◌then◌else◌, List, [], ◌∷◌, ◌++◌, Option, position}
 use Rattle.std.specs.List.{flat_map}
 use Rattle.std.specs.Str.{bytes_eq}

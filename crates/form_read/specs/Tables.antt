@@ -1,6 +1,7 @@
--- Secondary instances (ODK XForms, "Secondary Instances") and values that are set. Of tables of one name the first counts, and the
--- others are unread with their faults.
-use Rattle.std.specs.Prelude.{ℕ, Bool, true, false, ◌-◌, ◌&&◌, ◌||◌, if◌then◌else◌, List, [], ◌∷◌, ◌++◌, codes, nat_eq, length, take, drop, Option, Some, None, Result, Ok, Err, option_and_then}
+-- Secondary instances (ODK XForms, "Secondary Instances") and values that are set. Of tables of one name the first
+-- counts, and the others are unread with their faults.
+use Rattle.std.specs.Prelude.{ℕ, Bool, true, false, ◌-◌, ◌&&◌, ◌||◌, if◌then◌else◌, List, [], ◌∷◌, ◌++◌, codes}
+use Rattle.std.specs.Prelude.{nat_eq, length, take, drop, Option, Some, None, Result, Ok, Err, option_and_then}
 use Rattle.std.specs.List.{list_any, starts_with, ends_with}
 use Rattle.std.specs.Option.{option_map_or}
 use Rattle.std.specs.Str.{bytes_eq}
@@ -38,7 +39,8 @@ abbrev pub behind_scheme : List ℕ → Option (List ℕ)
 behind_scheme source = if starts_with nat_eq source scheme then Some (drop (length scheme) source) else None
 
 abbrev pub before_extension : List ℕ → Option (List ℕ)
-before_extension file = if ends_with nat_eq file extension then Some (take (length file - length extension) file) else None
+before_extension file =
+    if ends_with nat_eq file extension then Some (take (length file - length extension) file) else None
 
 abbrev pub if_some_name : List ℕ → Option (List ℕ)
 if_some_name name = if is_empty name then None else Some name
@@ -74,8 +76,10 @@ entity_id_path root = entity_path root ++ codes "/@id"
 -- the one value that may be set: a fresh id for the entity, when an instance begins
 abbrev pub draws_id : Scope → SetValue → Bool
 draws_id scope setvalue =
-    is_given (slot_of scope.slots (entity_id_path scope.root)) && says (entity_id_path scope.root) setvalue.target && says (codes "odk-instance-first-load") setvalue.event
+    is_given (slot_of scope.slots (entity_id_path scope.root)) && says (entity_id_path scope.root) setvalue.target
+    && says (codes "odk-instance-first-load") setvalue.event
     && says (codes "uuid()") setvalue.value
 
 abbrev pub setvalue_taken : Scope → Draft → SetValue → Result Draft FormRefused
-setvalue_taken scope d setvalue = if draws_id scope setvalue then Ok (record d { draws_id = true }) else Err (UnknownControl (codes "setvalue"))
+setvalue_taken scope d setvalue =
+    if draws_id scope setvalue then Ok (record d { draws_id = true }) else Err (UnknownControl (codes "setvalue"))

@@ -2,7 +2,8 @@ ghost use Rattle.std.specs.Prelude.{◌≡◌, IfOk, Some, None, slice_set};
 ghost use Rattle.std.specs.List.{slice_index_or};
 ghost use Rattle.std.specs.Option.{option_copied};
 ghost use Rattle.form_read.specs.Refusals.{Gives};
-ghost use Rattle.form_read.specs.Binds.{is_bind_of, type_in, type_of, is_below_meta, meta_prefix, bound_by, is_given, field_bound, no_field_bound, bind_taken};
+ghost use Rattle.form_read.specs.Binds.{is_bind_of, type_in, type_of, is_below_meta, meta_prefix, bound_by, is_given};
+ghost use Rattle.form_read.specs.Binds.{field_bound, no_field_bound, bind_taken};
 
 use crate::draft::{Bound, Draft};
 use crate::expressions::optional_at;

@@ -1,7 +1,11 @@
 ghost use Rattle.std.specs.Prelude.{◌≡◌, IfOk};
 ghost use Rattle.std.specs.Option.{option_copied};
 ghost use Rattle.form_read.specs.Refusals.{Gives};
-ghost use Rattle.form_read.specs.Controls.{is_input, is_select_one, is_control, input_kind, is_select_type, select_kind, control_kind, part_name, input_choices, filter_resolved, value_column, rows_resolved, rows_offered, part_offered, parts_offered, nothing_offered, choices_in, select_choices, control_choices, asked_by, field_asked, control_taken};
+ghost use Rattle.form_read.specs.Controls.{is_input, is_select_one, is_control, input_kind, is_select_type};
+ghost use Rattle.form_read.specs.Controls.{select_kind, control_kind, part_name, input_choices, filter_resolved};
+ghost use Rattle.form_read.specs.Controls.{value_column, rows_resolved, rows_offered, part_offered, parts_offered};
+ghost use Rattle.form_read.specs.Controls.{nothing_offered, choices_in, select_choices, control_choices, asked_by};
+ghost use Rattle.form_read.specs.Controls.{field_asked, control_taken};
 
 use crate::binds::{is_given, put, type_of};
 use crate::draft::{Asked, Draft, Offer};

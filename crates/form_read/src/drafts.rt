@@ -1,6 +1,7 @@
 ghost use Rattle.std.specs.Prelude.{◌≡◌, IfOk, map, None};
 ghost use Rattle.form_read.specs.Refusals.{Gives};
-ghost use Rattle.form_read.specs.Drafts.{primary_taken, model_part_taken, model_taken, controls_taken, empty_draft, head_first, body_first, all_taken};
+ghost use Rattle.form_read.specs.Drafts.{primary_taken, model_part_taken, model_taken, controls_taken, empty_draft};
+ghost use Rattle.form_read.specs.Drafts.{head_first, body_first, all_taken};
 
 use crate::binds::bind_taken;
 use crate::controls::control_taken;

@@ -1,6 +1,7 @@
 ghost use Rattle.std.specs.Prelude.{◌≡◌, map};
 ghost use Rattle.form_read.specs.Refusals.{Gives};
-ghost use Rattle.form_read.specs.Expressions.{is_table, is_declared, path_resolved, all_resolved, resolved, or_bad, expr_at, optional_at};
+ghost use Rattle.form_read.specs.Expressions.{is_table, is_declared, path_resolved, all_resolved, resolved, or_bad};
+ghost use Rattle.form_read.specs.Expressions.{expr_at, optional_at};
 ghost use Rattle.form_expr.specs.Reading.{expr_of, itemset_of};
 
 use crate::paths::field_read;

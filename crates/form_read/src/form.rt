@@ -8,7 +8,9 @@ ghost use Rattle.form_outline.specs.Names.{IsNamed};
 ghost use Rattle.form_read.specs.declared.refusal.FormRefused.TheVariants as refused_for;
 ghost use Rattle.form_order.specs.Cycles.{NoCycle};
 ghost use Rattle.form_read.specs.Refusals.{Gives};
-ghost use Rattle.form_read.specs.Forms.{auto_send_by, auto_send_in, dataset_in, entity_def, drafted, fields_drafted, parts_drafted, IsSound, HasNoOrder, IsFormOf, RefusesParts, doc_refusal, refusal_of, Describes, Refuses};
+ghost use Rattle.form_read.specs.Forms.{auto_send_by, auto_send_in, dataset_in, entity_def, drafted, fields_drafted};
+ghost use Rattle.form_read.specs.Forms.{parts_drafted, IsSound, HasNoOrder, IsFormOf, RefusesParts, doc_refusal};
+ghost use Rattle.form_read.specs.Forms.{refusal_of, Describes, Refuses};
 
 use crate::draft::{Draft, Drafted};
 use crate::drafts::{all_taken, empty_draft};

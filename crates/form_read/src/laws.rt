@@ -12,5 +12,6 @@ pub fn one_form()
 
 /// Bytes that describe a form are refused for want of memory alone.
 pub fn form_or_refusal()
-    ensures { (bytes : List ℕ) (form : FormDef) (refusal : FormRefused) → Describes bytes form → Refuses bytes refusal → refusal ≡ NoMemory }
+    ensures { (bytes : List ℕ) (form : FormDef) (refusal : FormRefused) → Describes bytes form → Refuses bytes refusal
+        → refusal ≡ NoMemory }
 {}

@@ -1,6 +1,7 @@
 ghost use Rattle.std.specs.Prelude.{◌≡◌, ◌++◌, ◌∷◌, IfOk, option_map};
 ghost use Rattle.std.specs.Option.{option_copied};
-ghost use Rattle.form_read.specs.Paths.{past_step, climbed, is_absolute, path_from, leaf_of, has_at_sign, readable_of, field_read};
+ghost use Rattle.form_read.specs.Paths.{past_step, climbed, is_absolute, path_from, leaf_of, has_at_sign};
+ghost use Rattle.form_read.specs.Paths.{readable_of, field_read};
 
 use field_text::NoMemory;
 use form_def::parent_path;

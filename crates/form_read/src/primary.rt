@@ -1,6 +1,7 @@
 ghost use Rattle.std.specs.Prelude.{◌≡◌, IfOk};
 ghost use Rattle.form_read.specs.Refusals.{Gives};
-ghost use Rattle.form_read.specs.Primary.{has_path, path_taken, paths_taken, entity_path, is_no_entity, field_taken, entity_taken, part_taken, parts_taken, nothing_seen};
+ghost use Rattle.form_read.specs.Primary.{has_path, path_taken, paths_taken, entity_path, is_no_entity, field_taken};
+ghost use Rattle.form_read.specs.Primary.{entity_taken, part_taken, parts_taken, nothing_seen};
 
 use crate::FormRefused;
 use field_text::{Items, NoMemory, Text};

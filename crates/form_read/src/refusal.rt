@@ -22,7 +22,7 @@ pub enum FormRefused {
     UnknownControl { name: Text },
     /// The field's control can't ask for its type.
     UnknownType { path: Text },
-    /// The first field in document order that depends on itself.
+    /// Of the fields that depend on themselves, the one that the document has first.
     Cycle { path: Text },
     /// A table that isn't declared, or one with another source than an entity list.
     UnknownList { name: Text },

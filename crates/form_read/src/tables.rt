@@ -1,7 +1,9 @@
 ghost use Rattle.std.specs.Prelude.{◌≡◌, ◌++◌, ◌∷◌, [], IfOk};
 ghost use Rattle.std.specs.Option.{option_copied};
 ghost use Rattle.form_read.specs.Refusals.{Gives};
-ghost use Rattle.form_read.specs.Tables.{has_inner, has_outer, has_table, behind_scheme, before_extension, list_named, content_taken, source_taken, table_taken, says, entity_id_path, draws_id, setvalue_taken};
+ghost use Rattle.form_read.specs.Tables.{has_inner, has_outer, has_table, behind_scheme, before_extension};
+ghost use Rattle.form_read.specs.Tables.{list_named, content_taken, source_taken, table_taken, says, entity_id_path};
+ghost use Rattle.form_read.specs.Tables.{draws_id, setvalue_taken};
 
 use crate::draft::Draft;
 use crate::primary::entity_path;

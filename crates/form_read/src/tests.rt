@@ -4,8 +4,9 @@ use rosa_doc::DocRefused;
 use std::alloc::Global;
 use std::test::Fail;
 
-static FORM: &str =
-    "<h><head><model><instance><d id='f'><a/><b/></d></instance><instance id='t'/><bind nodeset='/d/b' calculate='/d/a'/></model></head><body><select1 ref='/d/a'><itemset nodeset=\"instance('t')/root/item\"/></select1></body></h>";
+static FORM: &str = "<h><head><model><instance><d id='f'><a/><b/></d></instance><instance id='t'/>\
+        <bind nodeset='/d/b' calculate='/d/a'/></model></head><body>\
+        <select1 ref='/d/a'><itemset nodeset=\"instance('t')/root/item\"/></select1></body></h>";
 
 fn form_of(alloc: Global, text: &str) -> Result<FormDef, Fail> {
     Ok(read_form(alloc, text.as_bytes())?)

@@ -1,5 +1,6 @@
 -- Lists of form records, and what each call of a store makes of them.
-use Rattle.std.specs.Prelude.{◌≡◌, ℕ, ◌<◌, ◌&&◌, ◌==◌, nat_le, Bool, true, false, if◌then◌else◌, max, List, [], ◌∷◌, ◌++◌, length, position, slice_get, slice_set, Option, Some, None}
+use Rattle.std.specs.Prelude.{◌≡◌, ℕ, ◌<◌, ◌&&◌, ◌==◌, nat_le, Bool, true, false, if◌then◌else◌, max, List, [], ◌∷◌}
+use Rattle.std.specs.Prelude.{◌++◌, length, position, slice_get, slice_set, Option, Some, None}
 use Rattle.std.specs.Option.{option_map_or}
 use Rattle.std.specs.Str.{bytes_eq}
 use Rattle.form_store.specs.declared.records.FormRec.{FormRec}

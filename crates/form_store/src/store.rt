@@ -1,5 +1,6 @@
 ghost use Rattle.std.specs.Prelude.{◌≡◌, [], ◌+◌, ◌<◌, ◌≤◌, ◌&&◌, ◌==◌, length, remove, slice_get, Some, OnOk, OnErr};
-ghost use Rattle.form_store.specs.Forms.{check, check_at, check_of, completed, edited, exact, has_bytes, hidden, is_form, is_shown, is_shown_since, latest, newest, put, renewed};
+ghost use Rattle.form_store.specs.Forms.{check, check_at, check_of, completed, edited, exact, has_bytes, hidden};
+ghost use Rattle.form_store.specs.Forms.{is_form, is_shown, is_shown_since, latest, newest, put, renewed};
 ghost use Rattle.form_store.specs.declared.records.Check.TheVariants.{Fresh};
 
 use crate::{Check, FormRec};
@@ -26,10 +27,10 @@ impl Model for FormStore {
     ghost view = { λ s. s.rows };
 }
 
-fn is_form(record: &FormRec, id: &Text, version: &Text) -> bool
-    ensures { result ≡ is_form id.now version.now record.now }
+fn is_form(kept: &FormRec, id: &Text, version: &Text) -> bool
+    ensures { result ≡ is_form id.now version.now kept.now }
 {
-    record.id.bytes() == id.bytes() && record.version.bytes() == version.bytes()
+    kept.id.bytes() == id.bytes() && kept.version.bytes() == version.bytes()
 }
 
 fn exact(records: &[FormRec], id: &Text, version: &Text) -> Option<usize>
@@ -40,10 +41,10 @@ fn exact(records: &[FormRec], id: &Text, version: &Text) -> Option<usize>
         .position(|record| is_form(record, id, version))
 }
 
-fn is_shown(record: &FormRec, id: &Text) -> bool
-    ensures { result ≡ is_shown id.now record.now }
+fn is_shown(kept: &FormRec, id: &Text) -> bool
+    ensures { result ≡ is_shown id.now kept.now }
 {
-    record.visible && record.id.bytes() == id.bytes()
+    kept.visible && kept.id.bytes() == id.bytes()
 }
 
 fn newest(records: &[FormRec], id: &Text) -> u64
@@ -60,10 +61,10 @@ fn newest(records: &[FormRec], id: &Text) -> u64
     newest
 }
 
-fn is_shown_since(record: &FormRec, id: &Text, at: u64) -> bool
-    ensures { result ≡ is_shown_since id.now at record.now }
+fn is_shown_since(kept: &FormRec, id: &Text, at: u64) -> bool
+    ensures { result ≡ is_shown_since id.now at kept.now }
 {
-    is_shown(record, id) && record.put_at == at
+    is_shown(kept, id) && kept.put_at == at
 }
 
 fn latest(records: &[FormRec], id: &Text) -> Option<usize>

@@ -1,9 +1,13 @@
 -- What spells each token, and which token stands at the front of characters.
-use Rattle.std.specs.Prelude.{ℕ, zero, suc, pos, ◌≡◌, ◌+◌, ◌-◌, ◌*◌, ◌<◌, ◌≤◌, ◌==◌, Bool, true, ◌||◌, List, [], ◌∷◌, ◌++◌, length, fold, codes, encode_utf8_all}
+use Rattle.std.specs.Prelude.{ℕ, zero, suc, pos, ◌≡◌, ◌+◌, ◌-◌, ◌*◌, ◌<◌, ◌≤◌, ◌==◌, Bool, true, ◌||◌, List, [], ◌∷◌}
+use Rattle.std.specs.Prelude.{◌++◌, length, fold, codes, encode_utf8_all}
 use Rattle.std.specs.List.{list_all}
 use Rattle.field_text.specs.Xml.{is_local_name}
 use Rattle.form_tokens.specs.declared.token.Token.{Token}
-use Rattle.form_tokens.specs.declared.token.Token.TheVariants.{Digits, Quoted, Absolute, Relative, Name, Dot, Open, Close, OpenBracket, CloseBracket, Comma, Equal, NotEqual, Less, LessEqual, Greater, GreaterEqual, Plus, Minus, Star}
+use Rattle.form_tokens.specs.declared.token.Token.TheVariants.{Digits, Quoted, Absolute, Relative, Name, Dot, Open}
+use Rattle.form_tokens.specs.declared.token.Token.TheVariants.{Close, OpenBracket, CloseBracket, Comma, Equal}
+use Rattle.form_tokens.specs.declared.token.Token.TheVariants.{NotEqual, Less, LessEqual, Greater, GreaterEqual, Plus}
+use Rattle.form_tokens.specs.declared.token.Token.TheVariants.{Minus, Star}
 use Rattle.form_tokens.specs.Tokens.{is_digit, is_inside}
 
 -- the number that decimal digits are
@@ -27,14 +31,20 @@ steps zero = []
 steps (suc n) = 46 ∷ 46 ∷ 47 ∷ steps n
 
 pub data IsToken : Token → List ℕ → Type 0 where
-  digits : (cs : List ℕ) → 0 < length cs → length cs ≤ 15 → list_all is_digit cs ≡ true → IsToken (Digits (pos (value_of cs))) cs
-  quoted : (quote : ℕ) (inside : List ℕ) → is_quote quote ≡ true → list_all (is_inside quote) inside ≡ true → IsToken (Quoted (encode_utf8_all inside)) (quote ∷ inside ++ quote ∷ [])
-  absolute : (name : List ℕ) (names : List (List ℕ)) → are_names (name ∷ names) ≡ true → IsToken (Absolute (encode_utf8_all (slashed (name ∷ names)))) (slashed (name ∷ names))
+  digits : (cs : List ℕ) → 0 < length cs → length cs ≤ 15 → list_all is_digit cs ≡ true
+      → IsToken (Digits (pos (value_of cs))) cs
+  quoted : (quote : ℕ) (inside : List ℕ) → is_quote quote ≡ true → list_all (is_inside quote) inside ≡ true
+      → IsToken (Quoted (encode_utf8_all inside)) (quote ∷ inside ++ quote ∷ [])
+  absolute : (name : List ℕ) (names : List (List ℕ)) → are_names (name ∷ names) ≡ true
+      → IsToken (Absolute (encode_utf8_all (slashed (name ∷ names)))) (slashed (name ∷ names))
   -- the last name is an attribute's
-  absolute_attribute : (name : List ℕ) (names : List (List ℕ)) (last : List ℕ) → are_names (name ∷ names) ≡ true → is_local_name last ≡ true
-      → IsToken (Absolute (encode_utf8_all (slashed (name ∷ names) ++ 47 ∷ 64 ∷ last))) (slashed (name ∷ names) ++ 47 ∷ 64 ∷ last)
+  absolute_attribute : (name : List ℕ) (names : List (List ℕ)) (last : List ℕ) → are_names (name ∷ names) ≡ true
+      → is_local_name last ≡ true
+      → IsToken (Absolute (encode_utf8_all (slashed (name ∷ names) ++ 47 ∷ 64 ∷ last)))
+      (slashed (name ∷ names) ++ 47 ∷ 64 ∷ last)
   relative : (n : ℕ) (name : List ℕ) (names : List (List ℕ)) → are_names (name ∷ names) ≡ true
-      → IsToken (Relative (encode_utf8_all (steps (suc n) ++ (name ++ slashed names)))) (steps (suc n) ++ (name ++ slashed names))
+      → IsToken (Relative (encode_utf8_all (steps (suc n) ++ (name ++ slashed names))))
+      (steps (suc n) ++ (name ++ slashed names))
   named : (cs : List ℕ) → is_local_name cs ≡ true → IsToken (Name (encode_utf8_all cs)) cs
   dot : IsToken Dot (codes ".")
   opening : IsToken Open (codes "(")
@@ -58,7 +68,8 @@ StandsBefore token cs rest = (spelled : List ℕ) × IsToken token spelled × (c
 
 -- any token at the front leaves more than the rest, or is this one
 abbrev pub IsLongest : Token → List ℕ → List ℕ → Type 0
-IsLongest token cs rest = (other : Token) (left : List ℕ) → StandsBefore other cs left → (length rest ≤ length left) × (length left ≡ length rest → other ≡ token)
+IsLongest token cs rest = (other : Token) (left : List ℕ) → StandsBefore other cs left → (length rest ≤ length left)
+    × (length left ≡ length rest → other ≡ token)
 
 abbrev pub HasNoToken : List ℕ → Type 0
 HasNoToken cs = (token : Token) (rest : List ℕ) → ¬ (StandsBefore token cs rest)

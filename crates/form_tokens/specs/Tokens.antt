@@ -1,9 +1,14 @@
--- The tokens of expressions: which one stands at the front of characters, and what follows it. Each is as long as it can be.
-use Rattle.std.specs.Prelude.{ℕ, zero, suc, pos, ◌+◌, ◌-◌, ◌*◌, ◌==◌, not, Bool, ◌&&◌, ◌||◌, if◌then◌else◌, List, [], ◌∷◌, length, take, Option, Some, None, encode_utf8_all}
+-- The tokens of expressions: which one stands at the front of characters, and what follows it. Each is as long as it
+-- can be.
+use Rattle.std.specs.Prelude.{ℕ, zero, suc, pos, ◌+◌, ◌-◌, ◌*◌, ◌==◌, not, Bool, ◌&&◌, ◌||◌, if◌then◌else◌, List, []}
+use Rattle.std.specs.Prelude.{◌∷◌, length, take, Option, Some, None, encode_utf8_all}
 use Rattle.field_text.specs.Xml.{is_between, is_name_char, begins_as_name}
 use Rattle.rosa_pieces.specs.Reading.{◌>>=◌, past, past_one}
 use Rattle.form_tokens.specs.declared.token.Token.{Token}
-use Rattle.form_tokens.specs.declared.token.Token.TheVariants.{Digits, Quoted, Absolute, Relative, Name, Dot, Open, Close, OpenBracket, CloseBracket, Comma, Equal, NotEqual, Less, LessEqual, Greater, GreaterEqual, Plus, Minus, Star}
+use Rattle.form_tokens.specs.declared.token.Token.TheVariants.{Digits, Quoted, Absolute, Relative, Name, Dot, Open}
+use Rattle.form_tokens.specs.declared.token.Token.TheVariants.{Close, OpenBracket, CloseBracket, Comma, Equal}
+use Rattle.form_tokens.specs.declared.token.Token.TheVariants.{NotEqual, Less, LessEqual, Greater, GreaterEqual, Plus}
+use Rattle.form_tokens.specs.declared.token.Token.TheVariants.{Minus, Star}
 
 abbrev pub is_digit : ℕ → Bool
 is_digit c = is_between 48 57 c
@@ -40,7 +45,8 @@ past_attribute (c ∷ d ∷ cs) = if (c == 47) && (d == 64) && begins_as_name cs
 
 -- behind the first slash, from which the path is
 unfoldable pub absolute_at : List ℕ → List ℕ → Option (Token × List ℕ)
-absolute_at path cs = if begins_as_name cs then Some (Absolute (text_before path (past_attribute (past_names cs))), past_attribute (past_names cs)) else None
+absolute_at path cs = if begins_as_name cs then Some
+    (Absolute (text_before path (past_attribute (past_names cs))), past_attribute (past_names cs)) else None
 
 -- what follows the steps `../` at the front
 abbrev pub past_steps : List ℕ → List ℕ
@@ -51,10 +57,13 @@ past_steps (a ∷ b ∷ c ∷ cs) = if (a == 46) && (b == 46) && (c == 47) then 
 
 -- behind the first period, from which the path is
 unfoldable pub dotted_at : List ℕ → List ℕ → Option (Token × List ℕ)
-dotted_at path cs = if begins_as_name (past_steps path) then Some (Relative (text_before path (past_names (past_steps path))), past_names (past_steps path)) else Some (Dot, cs)
+dotted_at path cs = if begins_as_name (past_steps path)
+    then Some (Relative (text_before path (past_names (past_steps path))), past_names (past_steps path))
+    else Some (Dot, cs)
 
 unfoldable pub name_at : List ℕ → Option (Token × List ℕ)
-name_at cs = if begins_as_name cs then Some (Name (text_before cs (past is_name_char cs)), past is_name_char cs) else None
+name_at cs =
+    if begins_as_name cs then Some (Name (text_before cs (past is_name_char cs)), past is_name_char cs) else None
 
 -- the sign, or with an equals sign behind it the other one
 abbrev pub sign_or : Token → Token → List ℕ → Token × List ℕ

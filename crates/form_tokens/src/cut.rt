@@ -1,6 +1,7 @@
 ghost use Rattle.std.specs.Prelude.{◌≡◌, ◌<◌, ◌≤◌, ◌^◌, IfOk, length};
 ghost use Rattle.rosa_pieces.specs.Reading.{Gives};
-ghost use Rattle.form_tokens.specs.Tokens.{digits_at, digits_token, quoted_at, absolute_at, dotted_at, name_at, sign_or, not_equal_at, sign_at, token_at};
+ghost use Rattle.form_tokens.specs.Tokens.{digits_at, digits_token, quoted_at, absolute_at, dotted_at, name_at};
+ghost use Rattle.form_tokens.specs.Tokens.{sign_or, not_equal_at, sign_at, token_at};
 ghost use Rattle.form_tokens.specs.Spelling.{StandsBefore, IsLongest, HasNoToken};
 
 use crate::Token;

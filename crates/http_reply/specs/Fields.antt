@@ -1,5 +1,5 @@
--- Fields of a head by their names, which are compared in any case of ASCII letters (RFC 9110, section 5.1). A field is its
--- name, and its value without the white space round it.
+-- Fields of a head by their names, which are compared in any case of ASCII letters (RFC 9110, section 5.1). A field
+-- is its name, and its value without the white space round it.
 use Rattle.std.specs.Prelude.{ℕ, Bool, not, ◌||◌, List, codes, find, count_by, Option}
 use Rattle.std.specs.List.{list_all}
 use Rattle.std.specs.Option.{option_map}

@@ -1,5 +1,6 @@
 -- What the code's answers on heads and bodies say of the bytes.
-use Rattle.std.specs.Prelude.{◌≡◌, ◌≢◌, ℕ, ◌<◌, ◌≤◌, List, [], ◌++◌, length, drop, slice_range, Option, Bool, true, false, nat_le, if◌then◌else◌}
+use Rattle.std.specs.Prelude.{◌≡◌, ◌≢◌, ℕ, ◌<◌, ◌≤◌, List, [], ◌++◌, length, drop, slice_range, Option, Bool, true}
+use Rattle.std.specs.Prelude.{false, nat_le, if◌then◌else◌}
 use Rattle.std.specs.Borrow.{Bor}
 use Rattle.httparse.specs.Ascii.{crlf_bytes}
 use Rattle.httparse.specs.Grammar.{ResponseHead, status_code}
@@ -29,13 +30,15 @@ pub record IsHeadAt (bytes rest : List ℕ) (found : Head) (head : ResponseHead)
 
 -- the head at the front
 abbrev pub IsHead : List ℕ → Piece Head → Type 0
-IsHead bytes (Whole found) = (head : ResponseHead) × (rest : List ℕ) × HasHead bytes head rest × IsHeadAt bytes rest found head
+IsHead bytes (Whole found) =
+    (head : ResponseHead) × (rest : List ℕ) × HasHead bytes head rest × IsHeadAt bytes rest found head
 IsHead bytes Short = ReadsHead bytes short
 IsHead bytes Bad = ReadsHead bytes bad
 
 -- the final head
 abbrev pub IsFinalHead : List ℕ → Piece Head → Type 0
-IsFinalHead bytes (Whole found) = (head : ResponseHead) × (rest : List ℕ) × FindsHead bytes (whole (head, rest)) × IsHeadAt bytes rest found head
+IsFinalHead bytes (Whole found) =
+    (head : ResponseHead) × (rest : List ℕ) × FindsHead bytes (whole (head, rest)) × IsHeadAt bytes rest found head
 IsFinalHead bytes Short = FindsHead bytes short
 IsFinalHead bytes Bad = FindsHead bytes bad
 
@@ -58,7 +61,8 @@ pub record IsLast (bytes rest : List ℕ) : Type 0 where
   pub trailers : HasTrailers behind rest
 
 abbrev pub IsDataChunk : List ℕ → Chunk → Type 0
-IsDataChunk bytes (Data start end len) = (0 < len) × (len ≤ length bytes) × (start ≤ end) × (end ≤ length bytes) × HasChunk bytes (slice_range bytes start end) (drop len bytes)
+IsDataChunk bytes (Data start end len) = (0 < len) × (len ≤ length bytes) × (start ≤ end) × (end ≤ length bytes)
+    × HasChunk bytes (slice_range bytes start end) (drop len bytes)
 IsDataChunk bytes (Last len) = (len ≤ length bytes) × IsLast bytes (drop len bytes)
 
 -- the chunk at the front
@@ -77,7 +81,8 @@ abbrev pub ReadsContent : List ℕ → Piece (Unit {0}) → Type 0
 ReadsContent bytes piece = (found : Read (List ℕ × List ℕ)) × ReadsChunks bytes found × (piece ≡ piece_of found)
 
 abbrev pub CopiesContent : List ℕ → Option (List ℕ) → Type 0
-CopiesContent bytes body = (found : Read (List ℕ × List ℕ)) × ReadsChunks bytes found × (body ≡ whole_body (read_map (λ b. b.0) found))
+CopiesContent bytes body =
+    (found : Read (List ℕ × List ℕ)) × ReadsChunks bytes found × (body ≡ whole_body (read_map (λ b. b.0) found))
 
 -- the body behind a head
 abbrev pub IsBody : Framing → ℕ → List ℕ → Piece (Bor (List ℕ)) → Type 0

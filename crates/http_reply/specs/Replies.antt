@@ -27,9 +27,14 @@ has_own_end _ = true
 pub data IsReply : List ℕ → Reply → Type 0 where
   short_head : {bytes : List ℕ} → FindsHead bytes short → IsReply bytes (no_head short)
   bad_head : {bytes : List ℕ} → FindsHead bytes bad → IsReply bytes (no_head bad)
-  headed : {bytes : List ℕ} {body : Read (List ℕ)} (head : ResponseHead) (rest : List ℕ) → FindsHead bytes (whole (head, rest))
+  headed : {bytes : List ℕ} {body : Read (List ℕ)} (head : ResponseHead) (rest : List ℕ)
+      → FindsHead bytes (whole (head, rest))
       → ReadsBody (reply_framing (status_code head) (fields_of head)) (length bytes) rest body
-      → IsReply bytes (record { status = status_code head; body = body; has_end = has_own_end (reply_framing (status_code head) (fields_of head)) })
+      → IsReply bytes (record {
+        status = status_code head;
+        body = body;
+        has_end = has_own_end (reply_framing (status_code head) (fields_of head));
+      })
 
 -- the class of a reply of so many bytes
 abbrev pub class_of : ℕ → Read (List ℕ) → Class
@@ -43,7 +48,7 @@ ends_reply own (whole _) = own
 ends_reply own short = false
 ends_reply own bad = true
 
--- no further byte can change the class: the reply is bad, or whole by its own framing
+-- the class stands whatever comes behind: the reply is bad, or its length or chunks say that it is whole
 abbrev pub is_framed : Reply → Bool
 is_framed reply = ends_reply reply.has_end reply.body
 

@@ -61,7 +61,8 @@ pub(crate) fn copy_body(
     total: usize,
     bytes: &[u8],
 ) -> Result<Option<Blob>, NoMemory>
-    ensures { IfOk result (λ body. (found : Read (List ℕ)) × ReadsBody framing total bytes.now found × (body ≡ whole_body found)) }
+    ensures { IfOk result (λ body. (found : Read (List ℕ)) × ReadsBody framing total bytes.now found
+        × (body ≡ whole_body found)) }
 {
     if framing == Framing::Chunked {
         return collect_chunks(alloc, bytes);

@@ -77,7 +77,8 @@ fn class_in(total: usize, body: Piece<()>) -> Class
 
 /// The class and the status of these bytes as a reply.
 pub fn read_reply(bytes: &[u8]) -> ReplyView
-    ensures { (reply : Reply) × IsReply bytes.now reply × (result.status ≡ reply.status) × (result.class ≡ class_of (length bytes.now) reply.body) }
+    ensures { (reply : Reply) × IsReply bytes.now reply × (result.status ≡ reply.status)
+        × (result.class ≡ class_of (length bytes.now) reply.body) }
 {
     let outcome = read_outcome(bytes);
     ReplyView {
@@ -86,7 +87,7 @@ pub fn read_reply(bytes: &[u8]) -> ReplyView
     }
 }
 
-/// Whether no further byte can change the class: the reply is bad, or whole by a framing of its own.
+/// Whether the class stands whatever comes behind: the reply is bad, or its length or chunks say that it is whole.
 pub fn is_framed(bytes: &[u8]) -> bool
     ensures { (reply : Reply) × IsReply bytes.now reply × (result ≡ reply_framed reply) }
 {

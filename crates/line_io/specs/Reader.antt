@@ -16,7 +16,8 @@ pub record Input : Type 0 where
   pub left : Option (List ℕ)
   pub faults : ℕ
 
--- the reader is within its limit, and where it has seen the end of the source the source is there and all bytes are given
+-- the reader is within its limit, and where it has seen the end of the source the source is there and all bytes are
+-- given
 pub record IsKept (reader : ReaderView) (input : Input) : Type 0 where
   pub within : reader.taken ≤ most_bytes
   pub ended : reader.at_end ≡ true → IsAtEnd input.left
@@ -38,7 +39,8 @@ pub record HasEnded (reader : ReaderView) (input : Input) : Type 0 where
 -- what stands at the front of these bytes: a line with its line feed, the last line without one, or nothing more
 pub data Gives (new : ReaderView) (after : Input) (bytes : List ℕ) : Option (List ℕ) → Type 0 where
   line : (raw : List ℕ) → IsLine raw → bytes ≡ raw ++ 10 ∷ new.rest → Gives new after bytes (Some raw)
-  last : (raw : List ℕ) → 0 < length raw → IsLine raw → bytes ≡ raw → HasEnded new after → Gives new after bytes (Some raw)
+  last : (raw : List ℕ) → 0 < length raw → IsLine raw → bytes ≡ raw → HasEnded new after
+      → Gives new after bytes (Some raw)
   none : bytes ≡ [] → HasEnded new after → Gives new after bytes None
 
 -- the next line was given, or there is none more
@@ -51,9 +53,13 @@ pub record GivesNext (old new : ReaderView) (before after : Input) (given : Opti
 pub data StopsReading (old : ReaderView) (before after : Input) : ReadStop → Type 0 where
   failed : (bytes : List ℕ) → Taken before.left after.left bytes → IsUncut (old.rest ++ bytes)
       → Rose before.faults after.faults → StopsReading old before after ReadFault
-  starved : (bytes : List ℕ) → Taken before.left after.left bytes → after.faults ≡ before.faults → StopsReading old before after NoMemory
-  long_line : (bytes front more : List ℕ) → Taken before.left after.left bytes → old.rest ++ bytes ≡ front ++ more → IsUncut front
+  starved : (bytes : List ℕ) → Taken before.left after.left bytes → after.faults ≡ before.faults
+      → StopsReading old before after NoMemory
+  long_line : (bytes front more : List ℕ) → Taken before.left after.left bytes → old.rest ++ bytes ≡ front ++ more
+      → IsUncut front
       → longest_line < length front → after.faults ≡ before.faults → StopsReading old before after LineTooLong
   -- something was taken past the limit
-  long_script : (bytes past : List ℕ) → 0 < length past → Taken before.left after.left (bytes ++ past) → IsUncut (old.rest ++ bytes)
-      → old.taken + length bytes ≡ most_bytes → after.faults ≡ before.faults → StopsReading old before after ScriptTooLong
+  long_script : (bytes past : List ℕ) → 0 < length past → Taken before.left after.left (bytes ++ past)
+      → IsUncut (old.rest ++ bytes)
+      → old.taken + length bytes ≡ most_bytes → after.faults ≡ before.faults
+      → StopsReading old before after ScriptTooLong

@@ -29,9 +29,12 @@ pub record GivesByte (old new : ReaderView) (before after : Input) (next : Optio
 
 -- why there is no next byte
 pub data StopsByte (old : ReaderView) (before after : Input) : ReadStop → Type 0 where
-  failed : Taken before.left after.left [] → old.rest ≡ [] → Rose before.faults after.faults → StopsByte old before after ReadFault
-  starved : (bytes : List ℕ) → Taken before.left after.left bytes → after.faults ≡ before.faults → StopsByte old before after NoMemory
-  long_script : (past : List ℕ) → 0 < length past → Taken before.left after.left past → old.rest ≡ [] → old.taken ≡ most_bytes
+  failed : Taken before.left after.left [] → old.rest ≡ [] → Rose before.faults after.faults
+      → StopsByte old before after ReadFault
+  starved : (bytes : List ℕ) → Taken before.left after.left bytes → after.faults ≡ before.faults
+      → StopsByte old before after NoMemory
+  long_script : (past : List ℕ) → 0 < length past → Taken before.left after.left past → old.rest ≡ []
+      → old.taken ≡ most_bytes
       → after.faults ≡ before.faults → StopsByte old before after ScriptTooLong
 
 -- the front of a line was given

@@ -1,5 +1,6 @@
 // The reader of a script. It takes blocks of the source, and gives a line as soon as it has it whole.
-ghost use Rattle.std.specs.Prelude.{option_map, Ok, None, ◌<◌, ◌+◌, ◌≡◌, ◌≤◌, ◌∷◌, ◌++◌, [], ℕ, length, reverse, true, false, IfOk, IfErr, OnOk};
+ghost use Rattle.std.specs.Prelude.{option_map, Ok, None, ◌<◌, ◌+◌, ◌≡◌, ◌≤◌, ◌∷◌, ◌++◌, [], ℕ, length, reverse};
+ghost use Rattle.std.specs.Prelude.{true, false, IfOk, IfErr, OnOk};
 ghost use Rattle.line_io.specs.Reader.{ReaderView, Input, IsKept, GivesNext, StopsReading};
 ghost use Rattle.line_io.specs.Reading.{IsRoom, Fills, GivesByte, StopsByte};
 ghost use Rattle.line_io.specs.Script.{most_bytes};
@@ -74,7 +75,8 @@ impl LineReader {
     fn keep(&mut self, bytes: &[u8]) -> Result<(), NoMemory>
         requires empty { self.old.rest ≡ [] }
         requires within { self.old.taken + length bytes.now ≤ most_bytes }
-        ensures { OnOk result (self.new ≡ record self.old { rest = bytes.now; taken = self.old.taken + length bytes.now }) }
+        ensures { OnOk result (self.new ≡ record self.old
+            { rest = bytes.now; taken = self.old.taken + length bytes.now }) }
     {
         self.rest.extend_from_slice(bytes)?;
         self.rest.reverse();
@@ -92,9 +94,11 @@ impl LineReader {
     // Takes the next block, where nothing is left of the last one.
     fn fill<So: Source>(&mut self, source: &mut So) -> Result<(), ReadStop>
         requires { IsKept self.old (record { left = So.left source.old; faults = So.faults source.old }) }
-        ensures filled { OnOk result (Fills self.old self.new (record { left = So.left source.old; faults = So.faults source.old })
+        ensures filled { OnOk result (Fills self.old self.new
+            (record { left = So.left source.old; faults = So.faults source.old })
             (record { left = So.left source.new; faults = So.faults source.new })) }
-        ensures stopped { IfErr result (StopsByte self.old (record { left = So.left source.old; faults = So.faults source.old })
+        ensures stopped { IfErr result (StopsByte self.old
+            (record { left = So.left source.old; faults = So.faults source.old })
             (record { left = So.left source.new; faults = So.faults source.new })) }
     {
         if self.at_end {
@@ -125,27 +129,32 @@ impl LineReader {
 
     fn next_byte<So: Source>(&mut self, source: &mut So) -> Result<Option<u8>, ReadStop>
         requires { IsKept self.old (record { left = So.left source.old; faults = So.faults source.old }) }
-        ensures given { IfOk result (GivesByte self.old self.new (record { left = So.left source.old; faults = So.faults source.old })
+        ensures given { IfOk result (GivesByte self.old self.new
+            (record { left = So.left source.old; faults = So.faults source.old })
             (record { left = So.left source.new; faults = So.faults source.new })) }
-        ensures stopped { IfErr result (StopsByte self.old (record { left = So.left source.old; faults = So.faults source.old })
+        ensures stopped { IfErr result (StopsByte self.old
+            (record { left = So.left source.old; faults = So.faults source.old })
             (record { left = So.left source.new; faults = So.faults source.new })) }
     {
         self.fill(source)?;
         Ok(self.rest.pop())
     }
 
-    /// The next line without its line feed, none at the end of the input. A line is given once its line feed has come: nothing
-    /// behind it is taken before it was asked for, but for what came in one block with it.
+    /// The next line without its line feed, none at the end of the input. A line is given once its line feed has
+    /// come: nothing behind it is taken before it was asked for, but for what came in one block with it.
     pub fn next_line<So: Source>(
         &mut self,
         alloc: Global,
         source: &mut So,
     ) -> Result<Option<Vec<u8>>, ReadStop>
         requires { IsKept self.old (record { left = So.left source.old; faults = So.faults source.old }) }
-        ensures given { IfOk result (λ given. GivesNext self.old self.new (record { left = So.left source.old; faults = So.faults source.old })
-            (record { left = So.left source.new; faults = So.faults source.new }) (option_map (λ line. line.items) given)) }
+        ensures given { IfOk result (λ given. GivesNext self.old self.new
+            (record { left = So.left source.old; faults = So.faults source.old })
+            (record { left = So.left source.new; faults = So.faults source.new })
+            (option_map (λ line. line.items) given)) }
         ensures ended { self.old.at_end ≡ true → result ≡ Ok None }
-        ensures stopped { IfErr result (StopsReading self.old (record { left = So.left source.old; faults = So.faults source.old })
+        ensures stopped { IfErr result (StopsReading self.old
+            (record { left = So.left source.old; faults = So.faults source.old })
             (record { left = So.left source.new; faults = So.faults source.new })) }
     {
         if self.at_end {

@@ -1,12 +1,15 @@
 -- An answer as a function of the form, the tables and the texts: the texts after it, or the refusal.
-use Rattle.std.specs.Prelude.{ℕ, if◌then◌else◌, List, slice_get, slice_set, Option, Some, None, Result, Ok, Err, position}
+use Rattle.std.specs.Prelude.{ℕ, if◌then◌else◌, List, slice_get, slice_set, Option, Some, None, Result, Ok, Err}
+use Rattle.std.specs.Prelude.{position}
 use Rattle.std.specs.Str.{bytes_eq}
 use Rattle.field_text.specs.Finds.{◌>>=◌}
 use Rattle.field_text.specs.Tables.{NamedTable}
 use Rattle.form_def.specs.declared.field.Field.{Field}
 use Rattle.form_def.specs.declared.form.FormDef.{FormDef}
 use Rattle.question_rules.specs.declared.answers.AnswerRefused.{AnswerRefused}
-use Rattle.question_rules.specs.declared.answers.AnswerRefused.TheVariants.{NoQuestion, NotRelevant, ReadOnly, NotWhole, NotAChoice, TooLong, BadChar, NoMemory}
+use Rattle.question_rules.specs.declared.answers.AnswerRefused.TheVariants.{NoQuestion, NotRelevant, ReadOnly}
+use Rattle.question_rules.specs.declared.answers.AnswerRefused.TheVariants.{NotWhole, NotAChoice, TooLong, BadChar}
+use Rattle.question_rules.specs.declared.answers.AnswerRefused.TheVariants.{NoMemory}
 use Rattle.question_rules.specs.Along.{shown_marks, settled}
 use Rattle.question_rules.specs.Answers.{is_question, refusal}
 

@@ -1,5 +1,6 @@
 -- Which answers are taken, and what is refused first.
-use Rattle.std.specs.Prelude.{ℕ, ◌+◌, Bool, true, false, not, ◌&&◌, ◌≡◌, nat_lt, if◌then◌else◌, List, [], ◌∷◌, length, chars, slice_get, slice_set, Option, Some, None, encode_utf8, option_map}
+use Rattle.std.specs.Prelude.{ℕ, ◌+◌, Bool, true, false, not, ◌&&◌, ◌≡◌, nat_lt, if◌then◌else◌, List, [], ◌∷◌, length}
+use Rattle.std.specs.Prelude.{chars, slice_get, slice_set, Option, Some, None, encode_utf8, option_map}
 use Rattle.std.specs.List.{list_any}
 use Rattle.field_text.specs.Tables.{NamedTable}
 use Rattle.field_text.specs.Xml.{is_xml_char}
@@ -15,7 +16,9 @@ use Rattle.expr_values.specs.Functions.{is_some_text, is_piece, cut_at_spaces}
 use Rattle.expr_values.specs.Rows.{rows_named}
 use Rattle.expr_values.specs.Evaluation.{surroundings_of, offers, is_offered}
 use Rattle.question_rules.specs.declared.answers.AnswerRefused.{AnswerRefused}
-use Rattle.question_rules.specs.declared.answers.AnswerRefused.TheVariants.{NoQuestion, NotRelevant, ReadOnly, NotWhole, NotAChoice, TooLong, BadChar, NoMemory}
+use Rattle.question_rules.specs.declared.answers.AnswerRefused.TheVariants.{NoQuestion, NotRelevant, ReadOnly}
+use Rattle.question_rules.specs.declared.answers.AnswerRefused.TheVariants.{NotWhole, NotAChoice, TooLong, BadChar}
+use Rattle.question_rules.specs.declared.answers.AnswerRefused.TheVariants.{NoMemory}
 use Rattle.question_rules.specs.Fields.{holds_or}
 use Rattle.question_rules.specs.Shown.{IsShown}
 use Rattle.question_rules.specs.Settled.{IsSettled}

@@ -4,7 +4,9 @@ ghost use Rattle.std.specs.Str.{bytes_eq};
 ghost use Rattle.field_text.specs.Steps.{Gives};
 ghost use Rattle.expr_values.specs.Functions.{cut_at_spaces, is_some_text, is_piece};
 ghost use Rattle.expr_values.specs.Evaluation.{is_offered as among};
-ghost use Rattle.question_rules.specs.Answers.{is_question as asks, offered as values_of, are_chosen as chosen, is_no_number as no_number, is_no_choice as no_choice, bad_char_from, bad_text as refused_text, refusal as first_refusal, Fills, Refuses};
+ghost use Rattle.question_rules.specs.Answers.{is_question as asks, offered as values_of, are_chosen as chosen};
+ghost use Rattle.question_rules.specs.Answers.{is_no_number as no_number, is_no_choice as no_choice, bad_char_from};
+ghost use Rattle.question_rules.specs.Answers.{bad_text as refused_text, refusal as first_refusal, Fills, Refuses};
 ghost use Rattle.question_rules.specs.Answered.{question as question_of, refusal_at as refusal_of, answered, fault_of};
 ghost use Rattle.question_rules.specs.Along.{settled};
 

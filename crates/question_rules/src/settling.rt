@@ -1,7 +1,8 @@
 ghost use Rattle.std.specs.Prelude.{◌≡◌, length, slice_set, unwrap_or, IfOk, OnOk, OnErr};
 ghost use Rattle.question_rules.specs.Fields.{text_at};
 ghost use Rattle.question_rules.specs.Settled.{IsSettled};
-ghost use Rattle.question_rules.specs.Along.{mark_at as mark_of, text_made, marks_with, texts_with, made_along, unmarked, settled};
+ghost use Rattle.question_rules.specs.Along.{mark_at as mark_of, text_made, marks_with, texts_with, made_along};
+ghost use Rattle.question_rules.specs.Along.{unmarked, settled};
 
 use crate::marks::{mark_at, put_mark};
 use crate::sheet::{Sheet, copy_texts};

@@ -1,6 +1,7 @@
 -- Which pieces are a document, and which tree they are: XML 1.0 (sections 2.1, 2.4 and 2.11) in a profile without
 -- declarations. Comments and instructions vanish, adjacent text is joined, and the tree keeps local names.
-use Rattle.std.specs.Prelude.{◌≡◌, ℕ, ◌==◌, Bool, true, false, if◌then◌else◌, List, [], ◌∷◌, ◌++◌, Option, Some, None, codes, encode_utf8_all}
+use Rattle.std.specs.Prelude.{◌≡◌, ℕ, ◌==◌, Bool, true, false, if◌then◌else◌, List, [], ◌∷◌, ◌++◌, Option, Some, None}
+use Rattle.std.specs.Prelude.{codes, encode_utf8_all}
 use Rattle.std.specs.List.{list_all}
 use Rattle.std.specs.Str.{bytes_eq, chars}
 use Rattle.field_text.specs.Xml.{is_xml_space}
@@ -24,7 +25,8 @@ declares_namespace (Some prefix) local = bytes_eq prefix (codes "xmlns")
 -- the attributes of the tree
 abbrev pub kept : List Written → List Attribute
 kept [] = []
-kept (a ∷ others) = if declares_namespace a.name.prefix a.name.local then kept others else record { name = a.name.local; value = a.value } ∷ kept others
+kept (a ∷ others) = if declares_namespace a.name.prefix a.name.local then kept others
+    else record { name = a.name.local; value = a.value } ∷ kept others
 
 abbrev pub element_of : Tag → List Node → Element
 element_of t children = record { name = t.name.local; attributes = kept t.attributes; children = children }
@@ -52,17 +54,24 @@ ends_in_return (p ∷ q ∷ ps) = ends_in_return (q ∷ ps)
 -- instruction, a character or an element.
 pub data IsContent : List Piece → List Node → List ℕ → Type 0 where
   nothing : IsContent [] [] []
-  comment : (ps : List Piece) (children : List Node) (words : List ℕ) → IsContent ps children words → IsContent (ps ++ (Comment ∷ [])) children words
-  instruction : (ps : List Piece) (children : List Node) (words : List ℕ) → IsContent ps children words → IsContent (ps ++ (Instruction ∷ [])) children words
-  character : (ps : List Piece) (children : List Node) (words : List ℕ) (d : CharData) → IsContent ps children words → IsContent (ps ++ (Data d ∷ [])) children (words ++ encode_utf8_all (read_char (ends_in_return ps) d))
-  empty : (ps : List Piece) (children : List Node) (words : List ℕ) (t : Tag) → IsContent ps children words → IsContent (ps ++ (Empty t ∷ [])) (with_words children words ++ (Child (element_of t []) ∷ [])) []
-  element : (ps : List Piece) (children : List Node) (words : List ℕ) (t : Tag) (inside : List Piece) (inner : List Node) (text : List ℕ) → IsContent ps children words → IsContent inside inner text
-      → IsContent (ps ++ (Start t ∷ (inside ++ (End t.name ∷ [])))) (with_words children words ++ (Child (element_of t (with_words inner text)) ∷ [])) []
+  comment : (ps : List Piece) (children : List Node) (words : List ℕ) → IsContent ps children words
+      → IsContent (ps ++ (Comment ∷ [])) children words
+  instruction : (ps : List Piece) (children : List Node) (words : List ℕ) → IsContent ps children words
+      → IsContent (ps ++ (Instruction ∷ [])) children words
+  character : (ps : List Piece) (children : List Node) (words : List ℕ) (d : CharData) → IsContent ps children words
+      → IsContent (ps ++ (Data d ∷ [])) children (words ++ encode_utf8_all (read_char (ends_in_return ps) d))
+  empty : (ps : List Piece) (children : List Node) (words : List ℕ) (t : Tag) → IsContent ps children words
+      → IsContent (ps ++ (Empty t ∷ [])) (with_words children words ++ (Child (element_of t []) ∷ [])) []
+  element : (ps : List Piece) (children : List Node) (words : List ℕ) (t : Tag) (inside : List Piece)
+      (inner : List Node) (text : List ℕ) → IsContent ps children words → IsContent inside inner text
+      → IsContent (ps ++ (Start t ∷ (inside ++ (End t.name ∷ []))))
+      (with_words children words ++ (Child (element_of t (with_words inner text)) ∷ [])) []
 
 -- an element: an empty-element tag, or content between a start tag and an end tag with the same name
 pub data IsElement : List Piece → Element → Type 0 where
   empty_tag : (t : Tag) → IsElement (Empty t ∷ []) (element_of t [])
-  tags : (t : Tag) (inside : List Piece) (inner : List Node) (text : List ℕ) → IsContent inside inner text → IsElement (Start t ∷ (inside ++ (End t.name ∷ []))) (element_of t (with_words inner text))
+  tags : (t : Tag) (inside : List Piece) (inner : List Node) (text : List ℕ) → IsContent inside inner text
+      → IsElement (Start t ∷ (inside ++ (End t.name ∷ []))) (element_of t (with_words inner text))
 
 -- what may stand round the root
 abbrev pub is_around : Piece → Bool

@@ -6,10 +6,12 @@ use Rattle.rosa_pieces.specs.Pieces.{Spelled, IsPiece, IsValue}
 use Rattle.rosa_doc.specs.Documents.{IsContent}
 
 abbrev pub in_text : ℕ → List ℕ
-in_text c = if c == 38 then codes "&amp;" else if c == 60 then codes "&lt;" else if c == 62 then codes "&gt;" else if c == 13 then codes "&#13;" else encode_utf8 (xml_char_of c)
+in_text c = if c == 38 then codes "&amp;" else if c == 60 then codes "&lt;" else if c == 62 then codes "&gt;"
+    else if c == 13 then codes "&#13;" else encode_utf8 (xml_char_of c)
 
 abbrev pub in_value : ℕ → List ℕ
-in_value c = if c == 34 then codes "&quot;" else if c == 9 then codes "&#9;" else if c == 10 then codes "&#10;" else in_text c
+in_value c =
+    if c == 34 then codes "&quot;" else if c == 9 then codes "&#9;" else if c == 10 then codes "&#10;" else in_text c
 
 -- the bytes spell pieces that are, inside an element, this text and no child
 pub record TextReadsAs (text bytes : List ℕ) : Type 0 where

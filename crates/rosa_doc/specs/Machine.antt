@@ -1,5 +1,6 @@
 -- The reader's stack, piece by piece. Laws join it to the documents.
-use Rattle.std.specs.Prelude.{ℕ, ◌+◌, length, Bool, if◌then◌else◌, List, [], ◌∷◌, ◌++◌, Option, Some, None, encode_utf8_all}
+use Rattle.std.specs.Prelude.{ℕ, ◌+◌, length, Bool, if◌then◌else◌, List, [], ◌∷◌, ◌++◌, Option, Some, None}
+use Rattle.std.specs.Prelude.{encode_utf8_all}
 use Rattle.rosa_pieces.specs.declared.piece.Tag.{Tag}
 use Rattle.rosa_pieces.specs.declared.piece.CharData.{CharData}
 use Rattle.rosa_pieces.specs.declared.piece.Piece.{Piece}
@@ -31,7 +32,8 @@ abbrev pub with_child : Level → Element → Level
 with_child l e = record { tag = l.tag; children = with_words l.children l.words ++ (Child e ∷ []); words = [] }
 
 abbrev pub with_char : Level → Bool → CharData → Level
-with_char l after_return d = record { tag = l.tag; children = l.children; words = l.words ++ encode_utf8_all (read_char after_return d) }
+with_char l after_return d =
+    record { tag = l.tag; children = l.children; words = l.words ++ encode_utf8_all (read_char after_return d) }
 
 -- the element that ends is the root, or a child of the level round it
 abbrev pub leave : Element → List Level → State
@@ -50,7 +52,8 @@ step Before after_return Instruction = Some Before
 step Before after_return (Data d) = step_around Before (Data d)
 step (Within top outer) after_return (Start t) = Some (Within (opened t) (top ∷ outer))
 step (Within top outer) after_return (Empty t) = Some (Within (with_child top (element_of t [])) outer)
-step (Within top outer) after_return (End n) = if same_name n top.tag.name then Some (leave (closed top) outer) else None
+step (Within top outer) after_return (End n) =
+    if same_name n top.tag.name then Some (leave (closed top) outer) else None
 step (Within top outer) after_return Comment = Some (Within top outer)
 step (Within top outer) after_return Instruction = Some (Within top outer)
 step (Within top outer) after_return (Data d) = Some (Within (with_char top after_return d) outer)

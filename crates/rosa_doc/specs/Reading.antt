@@ -30,9 +30,12 @@ pub record HasReached (cs : List ℕ) (s : State) (after_return : Bool) (rest : 
 
 -- the reader stops before a start tag at level 17, or before a piece that can't stand there, or where no piece begins
 abbrev pub Stopped : List ℕ → Ending → List ℕ → Type 0
-Stopped cs Deep rest = (s : State) × (r : Bool) × HasReached cs s r rest × (depth_of s ≡ 16) × (p : Piece) × (x : List ℕ) × (w : List ℕ) × IsPiece p x × (rest ≡ x ++ w) × (opens p ≡ true)
-Stopped cs Stuck rest = (s : State) × (r : Bool) × HasReached cs s r rest × (p : Piece) × (x : List ℕ) × (w : List ℕ) × IsPiece p x × (rest ≡ x ++ w) × (step s r p ≡ None)
-Stopped cs (End progress) rest = (r : Bool) × HasReached cs (state_of progress) r rest × ((p : Piece) (x w : List ℕ) → IsPiece p x → rest ≡ x ++ w → ⊥)
+Stopped cs Deep rest = (s : State) × (r : Bool) × HasReached cs s r rest × (depth_of s ≡ 16) × (p : Piece)
+    × (x : List ℕ) × (w : List ℕ) × IsPiece p x × (rest ≡ x ++ w) × (opens p ≡ true)
+Stopped cs Stuck rest = (s : State) × (r : Bool) × HasReached cs s r rest × (p : Piece) × (x : List ℕ) × (w : List ℕ)
+    × IsPiece p x × (rest ≡ x ++ w) × (step s r p ≡ None)
+Stopped cs (End progress) rest = (r : Bool) × HasReached cs (state_of progress) r rest
+    × ((p : Piece) (x w : List ℕ) → IsPiece p x → rest ≡ x ++ w → ⊥)
 
 -- what is answered where the reader stops at the end, and where it stops before rest
 abbrev pub ended_at : State → ℕ → Result Doc DocRefused

@@ -1,6 +1,7 @@
 -- Documents within the limits, and which refusal comes in place of one. A list of first pieces is refused as soon as no
 -- document, however deep, begins with it.
-use Rattle.std.specs.Prelude.{◌≡◌, ◌≢◌, ℕ, ◌+◌, ◌-◌, ◌<◌, ◌≤◌, Bool, true, false, List, [], ◌∷◌, ◌++◌, Result, Ok, Err, codes, length, count_by, nat_eq, encode_utf8_all}
+use Rattle.std.specs.Prelude.{◌≡◌, ◌≢◌, ℕ, ◌+◌, ◌-◌, ◌<◌, ◌≤◌, Bool, true, false, List, [], ◌∷◌, ◌++◌, Result, Ok}
+use Rattle.std.specs.Prelude.{Err, codes, length, count_by, nat_eq, encode_utf8_all}
 use Rattle.std.specs.List.{starts_with}
 use Rattle.std.specs.Str.{IsUtf8, IsValidUpTo}
 use Rattle.rosa_pieces.specs.declared.piece.Piece.{Piece}
@@ -28,7 +29,8 @@ pub record BeginDocument (ps : List Piece) : Type 0 where
 pub record AreLongest (ps : List Piece) (cs rest : List ℕ) : Type 0 where
   pub first : AreFirst ps cs rest
   pub begin : BeginDocument ps
-  pub longest : (others : List Piece) (r : List ℕ) → AreFirst others cs r → BeginDocument others → length others ≤ length ps
+  pub longest : (others : List Piece) (r : List ℕ) → AreFirst others cs r → BeginDocument others
+      → length others ≤ length ps
 
 abbrev pub is_start : Piece → Bool
 is_start (Start t) = true
@@ -61,7 +63,8 @@ depth ps = count_by is_start ps - count_by is_end ps
 
 -- no element among them begins at a level above 16
 abbrev pub AreShallow : List Piece → Type 0
-AreShallow ps = (earlier : List Piece) (p : Piece) (later : List Piece) → ps ≡ earlier ++ (p ∷ later) → opens p ≡ true → depth earlier < 16
+AreShallow ps = (earlier : List Piece) (p : Piece) (later : List Piece) → ps ≡ earlier ++ (p ∷ later) → opens p ≡ true
+    → depth earlier < 16
 
 -- behind these first pieces, with which some document begins, an element begins at level 17, the first one so deep
 pub record IsDeep (cs rest : List ℕ) : Type 0 where
@@ -108,10 +111,14 @@ pub record Stops (bytes : List ℕ) (at : ℕ) (ps : List Piece) (rest : List �
 abbrev pub Refuses : List ℕ → DocRefused → Type 0
 Refuses bytes (refusals.TooLong n) = (longest_document < length bytes) × (n ≡ length bytes)
 Refuses bytes (refusals.NotUtf8 at) = (length bytes ≤ longest_document) × IsValidUpTo bytes at
-Refuses bytes (refusals.TooDeep at) = (rest : List ℕ) × IsText bytes × IsDeep (body_of bytes) rest × IsPlace bytes rest at
-Refuses bytes (refusals.Unclosed at) = (ps : List Piece) × Stops bytes at ps [] × ((root : Element) → IsDocument ps root → ⊥)
-Refuses bytes (refusals.HasDoctype at) = (ps : List Piece) × (rest : List ℕ) × Stops bytes at ps rest × (is_doctype rest ≡ true)
-Refuses bytes (refusals.BadMarkup at) = (ps : List Piece) × (rest : List ℕ) × Stops bytes at ps rest × (rest ≢ []) × (is_doctype rest ≡ false)
+Refuses bytes (refusals.TooDeep at) =
+    (rest : List ℕ) × IsText bytes × IsDeep (body_of bytes) rest × IsPlace bytes rest at
+Refuses bytes (refusals.Unclosed at) =
+    (ps : List Piece) × Stops bytes at ps [] × ((root : Element) → IsDocument ps root → ⊥)
+Refuses bytes (refusals.HasDoctype at) =
+    (ps : List Piece) × (rest : List ℕ) × Stops bytes at ps rest × (is_doctype rest ≡ true)
+Refuses bytes (refusals.BadMarkup at) =
+    (ps : List Piece) × (rest : List ℕ) × Stops bytes at ps rest × (rest ≢ []) × (is_doctype rest ≡ false)
 Refuses bytes refusals.NoMemory = Unit {0}
 
 -- what the bytes are read as: the document that they spell, or their refusal; want of memory is neither

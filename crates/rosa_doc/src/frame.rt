@@ -1,6 +1,7 @@
 ghost use Rattle.std.specs.Prelude.{◌≡◌, ◌++◌, IfOk, OnOk, string_bytes, encode_utf8_all};
 ghost use Rattle.rosa_pieces.specs.Pieces.{same_name, read_char};
-ghost use Rattle.rosa_doc.specs.Documents.{declares_namespace as declares, kept as kept_of, element_of as element_with, with_words as words_behind};
+ghost use Rattle.rosa_doc.specs.Documents.{declares_namespace as declares, kept as kept_of};
+ghost use Rattle.rosa_doc.specs.Documents.{element_of as element_with, with_words as words_behind};
 ghost use Rattle.rosa_doc.specs.Frames.{level_of};
 ghost use Rattle.rosa_doc.specs.Machine.{opened, closed, with_child, with_char};
 
@@ -87,7 +88,8 @@ impl Frame {
 /// Appends what a character adds to a text: a line feed for a carriage return that is no reference, and nothing for a
 /// line feed behind one.
 fn push_char(words: &mut String, after_return: bool, char_data: CharData) -> Result<(), NoMemory>
-    ensures { OnOk result (string_bytes words.new ≡ string_bytes words.old ++ encode_utf8_all (read_char after_return char_data)) }
+    ensures { OnOk result (string_bytes words.new ≡ string_bytes words.old
+        ++ encode_utf8_all (read_char after_return char_data)) }
 {
     match char_data {
         CharData::Literal('\r') => words.push('\n')?,

@@ -17,7 +17,8 @@ pub fn all_bytes_are_read()
     ensures { (bytes : List ℕ) → (reading : Result Doc DocRefused) × ReadsAs bytes reading }
 {}
 
-/// What the writers append reads as the text that was given, with U+FFFD for each character that a document may not hold.
+/// What the writers append is read back as their text, where U+FFFD takes the place of each character that no document
+/// may hold.
 pub fn written_reads()
     ensures text { (cs : List ℕ) → TextReadsAs (map xml_char_of cs) (flat_map in_text cs) }
     ensures value { (cs : List ℕ) → ValueReadsAs (map xml_char_of cs) (flat_map in_value cs) }

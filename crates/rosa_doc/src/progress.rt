@@ -85,7 +85,8 @@ fn step_within(
     after_return: bool,
     piece: Piece,
 ) -> Result<Option<Progress>, NoMemory>
-    ensures { IfOk result (λ next. option_map state_of next ≡ step (Within (level_of top) (levels_of outer.items)) after_return piece) }
+    ensures { IfOk result (λ next. option_map state_of next
+        ≡ step (Within (level_of top) (levels_of outer.items)) after_return piece) }
 {
     match piece {
         Piece::Start(tag) => {

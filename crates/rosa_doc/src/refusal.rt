@@ -6,7 +6,7 @@ use std::alloc::{AllocError, AllocFailed};
 /// Why bytes are no document. Places are in bytes, from 0.
 #[derive(Clone, Copy, Debug, PartialEq, Eq)]
 pub enum DocRefused {
-    /// `at` is the length of the longest prefix that is UTF-8.
+    /// `at` is how many bytes at the front are well-formed UTF-8, as many as there can be.
     NotUtf8 { at: u64 },
     /// What stands here can't.
     BadMarkup { at: u64 },

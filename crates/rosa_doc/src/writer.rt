@@ -16,7 +16,8 @@ pub fn write_text(text: &Text, out: &mut Vec<u8>) -> Result<(), NoMemory>
     or_cut(written, len, out)
 }
 
-/// Appends the text as it stands in an attribute's value between double quotes. After want of memory `out` is as it was.
+/// Appends the text as it stands in an attribute's value between double quotes. After want of memory `out` is as it
+/// was.
 pub fn write_attr(text: &Text, out: &mut Vec<u8>) -> Result<(), NoMemory>
     ensures ok { OnOk result (out.new.items ≡ out.old.items ++ flat_map in_value (chars text.now)) }
     ensures err { OnErr result (out.new.items ≡ out.old.items) }

@@ -23,6 +23,7 @@ end_text name = codes "</" ++ (name ++ codes ">")
 unfoldable pub leaf_text : Leaf → List ℕ
 leaf_text l = start_text l.name ++ (flat_map in_text (chars l.text) ++ end_text l.name)
 
--- a text that is written and read back as itself: of characters that a document may hold, and no white space at its ends
+-- a text that is written and read back as itself: of characters that a document may hold, and no white space at its
+-- ends
 abbrev pub is_plain : List ℕ → Bool
 is_plain text = is_utf8 text && list_all is_xml_char (chars text) && bytes_eq (trimmed text) text

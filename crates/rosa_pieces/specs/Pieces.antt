@@ -1,7 +1,8 @@
 -- Which characters spell which piece of a document: XML 1.0 (sections 2.2 to 2.6, 2.11, 3.1, 3.3.3 and 4.1) and
 -- Namespaces in XML 1.0, over code points, with no declarations, no CDATA sections and no entities but the five of
 -- section 4.6.
-use Rattle.std.specs.Prelude.{◌≡◌, ◌≢◌, ℕ, ◌+◌, ◌*◌, nat_lt, ◌==◌, Bool, true, false, not, ◌&&◌, ◌||◌, if◌then◌else◌, List, [], ◌∷◌, ◌++◌, Option, Some, None, codes, map, encode_utf8_all}
+use Rattle.std.specs.Prelude.{◌≡◌, ◌≢◌, ℕ, ◌+◌, ◌*◌, nat_lt, ◌==◌, Bool, true, false, not, ◌&&◌, ◌||◌, if◌then◌else◌}
+use Rattle.std.specs.Prelude.{List, [], ◌∷◌, ◌++◌, Option, Some, None, codes, map, encode_utf8_all}
 use Rattle.std.specs.List.{list_all, list_any, fold}
 use Rattle.std.specs.Str.{bytes_eq}
 use Rattle.std.specs.Char.{digit_value}
@@ -25,7 +26,8 @@ AreSpaces cs = list_all is_xml_space cs ≡ true
 -- a name, or two with a colon between them; the tree keeps texts, which are UTF-8
 abbrev pub SpellsName : Option (List ℕ) → List ℕ → List ℕ → Type 0
 SpellsName None local cs = (is_local_name cs ≡ true) × (local ≡ encode_utf8_all cs)
-SpellsName (Some prefix) local cs = (a : List ℕ) × (b : List ℕ) × (is_local_name a ≡ true) × (is_local_name b ≡ true) × (prefix ≡ encode_utf8_all a) × (local ≡ encode_utf8_all b) × (cs ≡ a ++ (58 ∷ b))
+SpellsName (Some prefix) local cs = (a : List ℕ) × (b : List ℕ) × (is_local_name a ≡ true) × (is_local_name b ≡ true)
+    × (prefix ≡ encode_utf8_all a) × (local ≡ encode_utf8_all b) × (cs ≡ a ++ (58 ∷ b))
 
 abbrev pub IsName : Name → List ℕ → Type 0
 IsName n cs = SpellsName n.prefix n.local cs
@@ -37,14 +39,17 @@ number base digits = fold (λ n d. n * base + digit_value d) 0 digits
 -- the character of a number, if XML 1.0 allows it
 abbrev pub numbered : ℕ → List ℕ → Option ℕ
 numbered base [] = None
-numbered base (d ∷ ds) = if list_all (λ c. nat_lt (digit_value c) base) (d ∷ ds) && is_xml_char (number base (d ∷ ds)) then Some (number base (d ∷ ds)) else None
+numbered base (d ∷ ds) = if list_all (λ c. nat_lt (digit_value c) base) (d ∷ ds) && is_xml_char (number base (d ∷ ds))
+    then Some (number base (d ∷ ds)) else None
 
 abbrev pub numeric : List ℕ → Option ℕ
 numeric [] = None
 numeric (c ∷ cs) = if c == 120 then numbered 16 cs else numbered 10 (c ∷ cs)
 
 abbrev pub named : List ℕ → Option ℕ
-named name = if bytes_eq name (codes "amp") then Some 38 else if bytes_eq name (codes "lt") then Some 60 else if bytes_eq name (codes "gt") then Some 62 else if bytes_eq name (codes "quot") then Some 34 else if bytes_eq name (codes "apos") then Some 39 else None
+named name = if bytes_eq name (codes "amp") then Some 38 else if bytes_eq name (codes "lt") then Some 60
+    else if bytes_eq name (codes "gt") then Some 62 else if bytes_eq name (codes "quot") then Some 34
+    else if bytes_eq name (codes "apos") then Some 39 else None
 
 -- the character that `&..;` stands for, by what stands between
 abbrev pub referenced : List ℕ → Option ℕ
@@ -60,7 +65,8 @@ is_literal c = is_xml_char c && not ((c == 60) || (c == 38))
 
 abbrev pub IsCharData : CharData → List ℕ → Type 0
 IsCharData (Literal c) cs = (is_literal c ≡ true) × (cs ≡ c ∷ [])
-IsCharData (Reference c) cs = (inside : List ℕ) × (list_all is_no_semicolon inside ≡ true) × (referenced inside ≡ Some c) × (cs ≡ 38 ∷ (inside ++ (59 ∷ [])))
+IsCharData (Reference c) cs = (inside : List ℕ) × (list_all is_no_semicolon inside ≡ true)
+    × (referenced inside ≡ Some c) × (cs ≡ 38 ∷ (inside ++ (59 ∷ [])))
 
 -- a literal carriage return
 abbrev pub is_return : CharData → Bool
@@ -97,11 +103,15 @@ abbrev pub is_quote : ℕ → Bool
 is_quote c = (c == 34) || (c == 39)
 
 abbrev pub IsValue : List ℕ → List ℕ → Type 0
-IsValue value cs = (quote : ℕ) × (ds : List CharData) × (inside : List ℕ) × (is_quote quote ≡ true) × Spelled (IsValueChar quote) ds inside × (value ≡ encode_utf8_all (read_value false ds)) × (cs ≡ quote ∷ (inside ++ (quote ∷ [])))
+IsValue value cs = (quote : ℕ) × (ds : List CharData) × (inside : List ℕ) × (is_quote quote ≡ true)
+    × Spelled (IsValueChar quote) ds inside × (value ≡ encode_utf8_all (read_value false ds))
+    × (cs ≡ quote ∷ (inside ++ (quote ∷ [])))
 
 -- white space, a name, `=`, a value
 abbrev pub IsAttribute : Attribute → List ℕ → Type 0
-IsAttribute a cs = (before : List ℕ) × (name : List ℕ) × (left : List ℕ) × (right : List ℕ) × (value : List ℕ) × AreSpaces before × (before ≢ []) × IsName a.name name × AreSpaces left × AreSpaces right × IsValue a.value value × (cs ≡ before ++ (name ++ (left ++ (61 ∷ (right ++ value)))))
+IsAttribute a cs = (before : List ℕ) × (name : List ℕ) × (left : List ℕ) × (right : List ℕ) × (value : List ℕ)
+    × AreSpaces before × (before ≢ []) × IsName a.name name × AreSpaces left × AreSpaces right × IsValue a.value value
+    × (cs ≡ before ++ (name ++ (left ++ (61 ∷ (right ++ value)))))
 
 abbrev pub same_prefix : Option (List ℕ) → Option (List ℕ) → Bool
 same_prefix None None = true
@@ -120,7 +130,9 @@ have_different_names (a ∷ others) = not (list_any (λ b. same_name a.name b.na
 
 -- `<`, a name, attributes with different names, and after white space what closes the tag
 abbrev pub IsTag : List ℕ → Tag → List ℕ → Type 0
-IsTag close t cs = (name : List ℕ) × (attributes : List ℕ) × (spaces : List ℕ) × IsName t.name name × Spelled IsAttribute t.attributes attributes × (have_different_names t.attributes ≡ true) × AreSpaces spaces × (cs ≡ 60 ∷ (name ++ (attributes ++ (spaces ++ close))))
+IsTag close t cs = (name : List ℕ) × (attributes : List ℕ) × (spaces : List ℕ) × IsName t.name name
+    × Spelled IsAttribute t.attributes attributes × (have_different_names t.attributes ≡ true) × AreSpaces spaces
+    × (cs ≡ 60 ∷ (name ++ (attributes ++ (spaces ++ close))))
 
 abbrev pub begins : (ℕ → Bool) → List ℕ → Bool
 begins p [] = false
@@ -133,13 +145,15 @@ lacks_pair a b (c ∷ cs) = not ((c == a) && begins (λ d. d == b) cs) && lacks_
 
 -- allowed characters between two marks, among which a nowhere stands right before b
 abbrev pub IsSkipped : List ℕ → List ℕ → ℕ → ℕ → List ℕ → Type 0
-IsSkipped opening close a b cs = (inside : List ℕ) × (list_all is_xml_char inside ≡ true) × (lacks_pair a b inside ≡ true) × (cs ≡ opening ++ (inside ++ close))
+IsSkipped opening close a b cs = (inside : List ℕ) × (list_all is_xml_char inside ≡ true)
+    × (lacks_pair a b inside ≡ true) × (cs ≡ opening ++ (inside ++ close))
 
 -- the characters of one piece
 abbrev pub IsPiece : Piece → List ℕ → Type 0
 IsPiece (Start t) cs = IsTag (codes ">") t cs
 IsPiece (Empty t) cs = IsTag (codes "/>") t cs
-IsPiece (End n) cs = (name : List ℕ) × (spaces : List ℕ) × IsName n name × AreSpaces spaces × (cs ≡ 60 ∷ (47 ∷ (name ++ (spaces ++ (62 ∷ [])))))
+IsPiece (End n) cs = (name : List ℕ) × (spaces : List ℕ) × IsName n name × AreSpaces spaces
+    × (cs ≡ 60 ∷ (47 ∷ (name ++ (spaces ++ (62 ∷ [])))))
 IsPiece Comment cs = IsSkipped (codes "<!--") (codes "-->") 45 45 cs
 IsPiece Instruction cs = IsSkipped (codes "<?") (codes "?>") 63 62 cs
 IsPiece (Data d) cs = IsCharData d cs

@@ -1,5 +1,7 @@
 -- Reading from left to right: what stands at the front, and the characters after it. Laws join these to the spellings.
-use Rattle.std.specs.Prelude.{◌≡◌, ℕ, zero, suc, ◌+◌, ◌==◌, Bool, true, false, ◌&&◌, if◌then◌else◌, List, [], ◌∷◌, Option, Some, None, Result, Ok, Err, codes, length, take, drop, nat_eq, option_map, encode_utf8_all}
+use Rattle.std.specs.Prelude.{◌≡◌, ℕ, zero, suc, ◌+◌, ◌==◌, Bool, true, false, ◌&&◌, if◌then◌else◌, List, [], ◌∷◌}
+use Rattle.std.specs.Prelude.{Option, Some, None, Result, Ok, Err, codes, length, take, drop, nat_eq, option_map}
+use Rattle.std.specs.Prelude.{encode_utf8_all}
 use Rattle.std.specs.List.{starts_with}
 use Rattle.field_text.specs.Xml.{is_xml_char, is_xml_space, is_name_char, begins_as_name}
 use Rattle.rosa_pieces.specs.declared.unread.Unread.{Unread}
@@ -11,7 +13,8 @@ use Rattle.rosa_pieces.specs.declared.piece.CharData.{CharData}
 use Rattle.rosa_pieces.specs.declared.piece.CharData.TheVariants.{Literal, Reference}
 use Rattle.rosa_pieces.specs.declared.piece.Piece.{Piece}
 use Rattle.rosa_pieces.specs.declared.piece.Piece.TheVariants.{Start, Empty, End, Comment, Instruction, Data}
-use Rattle.rosa_pieces.specs.Pieces.{referenced, is_no_semicolon, is_literal, is_quote, read_value, have_different_names, begins, lacks_pair}
+use Rattle.rosa_pieces.specs.Pieces.{referenced, is_no_semicolon, is_literal, is_quote, read_value}
+use Rattle.rosa_pieces.specs.Pieces.{have_different_names, begins, lacks_pair}
 
 infixl 10 ◌>>=◌
 abbrev pub ◌>>=◌ : {A B : Type 0} → Option A → (A → Option B) → Option B
@@ -54,7 +57,9 @@ local_at cs = if begins_as_name cs then Some (encode_utf8_all (front is_name_cha
 
 unfoldable pub name_from : List ℕ → List ℕ → Option (Name × List ℕ)
 name_from first [] = Some (record { prefix = None; local = first }, [])
-name_from first (c ∷ cs) = if c == 58 then (local_at cs >>= λ second. Some (record { prefix = Some first; local = second.0 }, second.1)) else Some (record { prefix = None; local = first }, c ∷ cs)
+name_from first (c ∷ cs) = if c == 58 then (local_at cs >>= λ second.
+    Some (record { prefix = Some first; local = second.0 }, second.1))
+    else Some (record { prefix = None; local = first }, c ∷ cs)
 
 unfoldable pub name_at : List ℕ → Option (Name × List ℕ)
 name_at cs = do
@@ -100,14 +105,19 @@ attribute_at cs = if begins is_xml_space cs then pair_at (past is_xml_space cs) 
 -- what closes a tag, and whether it closes the element too
 unfoldable pub close_at : List ℕ → Option (Bool × List ℕ)
 close_at [] = None
-close_at (c ∷ cs) = if c == 62 then Some (false, cs) else if c == 47 then (past_one 62 cs >>= λ rest. Some (true, rest)) else None
+close_at (c ∷ cs) =
+    if c == 62 then Some (false, cs) else if c == 47 then (past_one 62 cs >>= λ rest. Some (true, rest)) else None
 
 -- behind the `<`
 unfoldable pub tag_at : List ℕ → Option ((Bool × Tag) × List ℕ)
 tag_at cs = do
   name ← name_at cs
   close ← close_at (past is_xml_space (cuts attribute_at (length name.1) name.1).1)
-  if have_different_names (cuts attribute_at (length name.1) name.1).0 then Some ((close.0, record { name = name.0; attributes = (cuts attribute_at (length name.1) name.1).0 }), close.1) else None
+  if have_different_names (cuts attribute_at (length name.1) name.1).0
+      then Some (
+        (close.0, record { name = name.0; attributes = (cuts attribute_at (length name.1) name.1).0 }),
+        close.1,
+      ) else None
 
 abbrev pub tag_piece : Bool × Tag → Piece
 tag_piece t = if t.0 then Empty t.1 else Start t.1
@@ -127,7 +137,8 @@ end_at cs = do
 -- how many allowed characters stand before the first `close`
 unfoldable pub until : List ℕ → List ℕ → Option ℕ
 until close [] = None
-until close (c ∷ cs) = if starts_with nat_eq (c ∷ cs) close then Some 0 else if is_xml_char c then option_map (λ n. n + 1) (until close cs) else None
+until close (c ∷ cs) = if starts_with nat_eq (c ∷ cs) close then Some 0
+    else if is_xml_char c then option_map (λ n. n + 1) (until close cs) else None
 
 unfoldable pub skipped_at : Piece → List ℕ → ℕ → ℕ → List ℕ → Option (Piece × List ℕ)
 skipped_at piece close a b cs = do
@@ -143,7 +154,8 @@ comment_at (c ∷ d ∷ cs) = if (c == 45) && (d == 45) then skipped_at Comment 
 -- behind the `<`
 unfoldable pub markup_at : List ℕ → Option (Piece × List ℕ)
 markup_at [] = None
-markup_at (c ∷ cs) = if c == 47 then end_at cs else if c == 33 then comment_at cs else if c == 63 then skipped_at Instruction (codes "?>") 63 62 cs else tag_piece_at (c ∷ cs)
+markup_at (c ∷ cs) = if c == 47 then end_at cs else if c == 33 then comment_at cs
+    else if c == 63 then skipped_at Instruction (codes "?>") 63 62 cs else tag_piece_at (c ∷ cs)
 
 unfoldable pub piece_at : List ℕ → Option (Piece × List ℕ)
 piece_at [] = None

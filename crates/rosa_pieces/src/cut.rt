@@ -41,12 +41,14 @@ fn any_piece_at(alloc: Global, chars: &[char]) -> Result<(Piece, &[char]), Unrea
 /// The piece at the front, and what follows it.
 pub fn piece_at(alloc: Global, chars: &[char]) -> Result<(Piece, &[char]), Unread>
     ensures found { IfOk result (λ x. (spelled : List ℕ) × IsPiece x.0 spelled × (chars.now ≡ spelled ++ x.1.now)) }
-    ensures absent { IsErrOf result Absent → (p : AnyPiece) (spelled rest : List ℕ) → IsPiece p spelled → chars.now ≡ spelled ++ rest → ⊥ }
+    ensures absent { IsErrOf result Absent → (p : AnyPiece) (spelled rest : List ℕ) → IsPiece p spelled
+        → chars.now ≡ spelled ++ rest → ⊥ }
 {
     any_piece_at(alloc, chars)
 }
 
 /// At one place one piece begins at most.
 pub fn one_piece()
-    ensures { (p q : AnyPiece) (x y r s : List ℕ) → IsPiece p x → IsPiece q y → x ++ r ≡ y ++ s → (p ≡ q) × (x ≡ y) × (r ≡ s) }
+    ensures { (p q : AnyPiece) (x y r s : List ℕ) → IsPiece p x → IsPiece q y → x ++ r ≡ y ++ s → (p ≡ q) × (x ≡ y)
+        × (r ≡ s) }
 {}

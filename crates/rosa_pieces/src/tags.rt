@@ -2,7 +2,8 @@ ghost use Rattle.std.specs.Prelude.{◌≡◌, IfOk, length, Err};
 ghost use Rattle.std.specs.List.{list_any};
 ghost use Rattle.field_text.specs.Xml.{is_xml_space as space};
 ghost use Rattle.rosa_pieces.specs.Pieces.{begins, have_different_names as different, same_name as same};
-ghost use Rattle.rosa_pieces.specs.Reading.{Gives, past, cuts, pair_at, attribute_at, close_at, tag_at, tag_piece_at, end_at};
+ghost use Rattle.rosa_pieces.specs.Reading.{Gives, past, cuts, pair_at, attribute_at, close_at, tag_at, tag_piece_at};
+ghost use Rattle.rosa_pieces.specs.Reading.{end_at};
 ghost use Rattle.rosa_pieces.specs.declared.unread.Unread.TheVariants.{Absent};
 
 use crate::front::{past_one, past_spaces};

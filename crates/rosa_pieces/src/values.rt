@@ -1,8 +1,10 @@
-ghost use Rattle.std.specs.Prelude.{◌≡◌, ◌≤◌, ◌++◌, MatchOption, IfOk, OnOk, min, nat_lt, true, false, Some, None, if◌then◌else◌, length, option_map, encode_utf8_all, string_bytes};
+ghost use Rattle.std.specs.Prelude.{◌≡◌, ◌≤◌, ◌++◌, MatchOption, IfOk, OnOk, min, nat_lt, true, false, Some, None};
+ghost use Rattle.std.specs.Prelude.{if◌then◌else◌, length, option_map, encode_utf8_all, string_bytes};
 ghost use Rattle.std.specs.Char.{digit_value};
 ghost use Rattle.std.specs.List.{list_all};
 ghost use Rattle.field_text.specs.Xml.{is_xml_char as xml_char};
-ghost use Rattle.rosa_pieces.specs.Pieces.{number, numbered, numeric, named, referenced, is_literal as literal, read_value, read_value_char};
+ghost use Rattle.rosa_pieces.specs.Pieces.{number, numbered, numeric, named, referenced, is_literal as literal};
+ghost use Rattle.rosa_pieces.specs.Pieces.{read_value, read_value_char};
 ghost use Rattle.rosa_pieces.specs.Reading.{Gives, cuts, reference_at, data_at, value_char_at, quoted_at, value_at};
 
 use crate::front::{past_one, split_semicolon};
@@ -16,7 +18,8 @@ fn code_of(base: u32, digits: &[char]) -> Option<u32>
     requires low { 2 ≤ base }
     requires high { base ≤ 16 }
     ensures { MatchOption result (list_all (λ c. nat_lt (digit_value c) base) digits.now ≡ false)
-        (λ code. (list_all (λ c. nat_lt (digit_value c) base) digits.now ≡ true) × (code ≡ min (number base digits.now) 0x110000)) }
+        (λ code. (list_all (λ c. nat_lt (digit_value c) base) digits.now ≡ true)
+        × (code ≡ min (number base digits.now) 0x110000)) }
 {
     let mut code: u32 = 0;
     for c in digits {
@@ -135,7 +138,8 @@ fn push_value_char(
     after_return: bool,
     char_data: CharData,
 ) -> Result<(), NoMemory>
-    ensures { OnOk result (string_bytes text.new ≡ string_bytes text.old ++ encode_utf8_all (read_value_char after_return char_data)) }
+    ensures { OnOk result (string_bytes text.new ≡ string_bytes text.old
+        ++ encode_utf8_all (read_value_char after_return char_data)) }
 {
     match char_data {
         CharData::Literal('\n') if after_return => {}
@@ -147,7 +151,8 @@ fn push_value_char(
 
 /// The text of the characters in front of the quote, and what follows them.
 fn value_chars(alloc: Global, quote: char, chars: &[char]) -> Result<(String, &[char]), NoMemory>
-    ensures text { IfOk result (λ x. string_bytes x.0 ≡ encode_utf8_all (read_value false (cuts (value_char_at quote) (length chars.now) chars.now).0)) }
+    ensures text { IfOk result (λ x. string_bytes x.0
+        ≡ encode_utf8_all (read_value false (cuts (value_char_at quote) (length chars.now) chars.now).0)) }
     ensures rest { IfOk result (λ x. x.1.now ≡ (cuts (value_char_at quote) (length chars.now) chars.now).1) }
 {
     let mut text = String::new(alloc);

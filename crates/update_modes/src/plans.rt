@@ -1,6 +1,7 @@
 ghost use Rattle.std.specs.Prelude.{◌≡◌, IfOk};
 ghost use Rattle.form_store.specs.Forms.{is_shown};
-ghost use Rattle.update_modes.specs.Plans.{gone, is_asked, is_followed, is_gone, is_had, is_listed, is_same, is_there, is_wanted, plan};
+ghost use Rattle.update_modes.specs.Plans.{gone, is_asked, is_followed, is_gone, is_had, is_listed, is_same};
+ghost use Rattle.update_modes.specs.Plans.{is_there, is_wanted, plan};
 
 use crate::places::{Test, places};
 use field_ids::same_hash;
@@ -9,16 +10,16 @@ use form_list::Listed;
 use form_store::{FormRec, FormStore};
 use std::alloc::Global;
 
-fn is_shown(record: &FormRec, id: &Text) -> bool
-    ensures { result ≡ is_shown id.now record.now }
+fn is_shown(kept: &FormRec, id: &Text) -> bool
+    ensures { result ≡ is_shown id.now kept.now }
 {
-    record.visible && record.id.bytes() == id.bytes()
+    kept.visible && kept.id.bytes() == id.bytes()
 }
 
-fn is_same(form: &Listed, record: &FormRec) -> bool
-    ensures { result ≡ is_same form.now record.now }
+fn is_same(form: &Listed, kept: &FormRec) -> bool
+    ensures { result ≡ is_same form.now kept.now }
 {
-    is_shown(record, &form.form_id) && record.complete && same_hash(&record.hash, &form.hash)
+    is_shown(kept, &form.form_id) && kept.complete && same_hash(&kept.hash, &form.hash)
 }
 
 fn is_there(forms: &[FormRec], form: &Listed) -> bool
@@ -81,12 +82,12 @@ pub fn plan(
     places(alloc, &Wanted { mode, asked, forms }, listed)
 }
 
-fn is_listed(listed: &[Listed], record: &FormRec) -> bool
-    ensures { result ≡ is_listed listed.now record.now }
+fn is_listed(listed: &[Listed], kept: &FormRec) -> bool
+    ensures { result ≡ is_listed listed.now kept.now }
 {
     listed
         .iter()
-        .any(|form| form.form_id.bytes() == record.id.bytes())
+        .any(|form| form.form_id.bytes() == kept.id.bytes())
 }
 
 // What a form list lacks.
@@ -98,8 +99,8 @@ struct Unlisted<'a> {
 impl<'a> Test<FormRec> for Unlisted<'a> {
     ghost test = { λ u form. is_gone u.listed.now form };
 
-    fn passes(&self, record: &FormRec) -> bool {
-        record.visible && !is_listed(self.listed, record)
+    fn passes(&self, kept: &FormRec) -> bool {
+        kept.visible && !is_listed(self.listed, kept)
     }
 }
 
