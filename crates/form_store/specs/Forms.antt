@@ -1,8 +1,9 @@
 -- Lists of form records, and what each call of a store makes of them.
 use Rattle.std.specs.Prelude.{◌≡◌, ℕ, ◌<◌, ◌&&◌, ◌==◌, nat_le, Bool, true, false, if◌then◌else◌, max, List, [], ◌∷◌}
-use Rattle.std.specs.Prelude.{◌++◌, length, position, slice_get, slice_set, Option, Some, None}
+use Rattle.std.specs.Prelude.{◌++◌, length, position, slice_get, Option, Some, None}
 use Rattle.std.specs.Option.{option_map_or}
 use Rattle.std.specs.Str.{bytes_eq}
+use Rattle.field_rows.specs.Edited.{edited}
 use Rattle.form_store.specs.declared.records.FormRec.{FormRec}
 use Rattle.form_store.specs.declared.records.Check.{Check}
 use Rattle.form_store.specs.declared.records.Check.TheVariants.{Fresh, Same, OtherBytes, Full}
@@ -49,10 +50,6 @@ check id version bytes records = check_at bytes records (exact id version record
 
 abbrev pub check_of : FormRec → List FormRec → Check
 check_of item records = check item.id item.version item.bytes records
-
--- the records with another one in the place of one of them
-abbrev pub edited : (FormRec → FormRec) → ℕ → List FormRec → List FormRec
-edited f place records = option_map_or (λ r. slice_set records place (f r)) (slice_get records place) records
 
 -- a kept record that is put again
 abbrev pub renewed : FormRec → FormRec → FormRec

@@ -1,5 +1,6 @@
 ghost use Rattle.std.specs.Prelude.{◌≡◌, [], ◌+◌, ◌<◌, ◌≤◌, ◌&&◌, ◌==◌, length, remove, slice_get, Some, OnOk, OnErr};
-ghost use Rattle.form_store.specs.Forms.{check, check_at, check_of, completed, edited, exact, has_bytes, hidden};
+ghost use Rattle.field_rows.specs.Edited.{edited};
+ghost use Rattle.form_store.specs.Forms.{check, check_at, check_of, completed, exact, has_bytes, hidden};
 ghost use Rattle.form_store.specs.Forms.{is_form, is_shown, is_shown_since, latest, newest, put, renewed};
 ghost use Rattle.form_store.specs.declared.records.Check.TheVariants.{Fresh};
 
