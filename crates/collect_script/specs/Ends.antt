@@ -25,6 +25,11 @@ pub record Streams : Type 0 where
   pub source_faults : ℕ
   pub sink_faults : ℕ
 
+-- the streams, by what the source and the sink tell
+abbrev pub streams : Option (List ℕ) → Option (List ℕ) → ℕ → ℕ → Streams
+streams left held source_faults sink_faults =
+    record { left = left; held = held; source_faults = source_faults; sink_faults = sink_faults }
+
 -- how the answering ended: at the script's end, or by a stop
 abbrev pub ScriptEnd : Type 0
 ScriptEnd = Result (Unit {0}) ScriptStop

@@ -4,6 +4,7 @@ ghost use Rattle.device_rules.specs.Caller.{CallerView};
 ghost use Rattle.entry_form.specs.declared.hand.Hand.{Hand};
 ghost use Rattle.line_io.specs.Reader.{GivesNext, IsKept, StopsReading};
 ghost use Rattle.line_io.specs.declared.stop.ReadStop.{ReadStop};
+ghost use Rattle.collect_script.specs.Ends.{streams};
 ghost use Rattle.collect_script.specs.Answering.{AnswersLines, LineAnswered, LineStops, stop_of};
 ghost use Rattle.collect_script.specs.Script.{is_quit};
 ghost use Rattle.collect_script.specs.Transcript.{of_script};
@@ -68,18 +69,8 @@ pub fn answer_lines<K: Caller, So: Source, Si: Sink>(
     requires hand { (K.seen caller.old).hand ≡ Hand.Script }
     requires none_left { of_script (K.seen caller.old).rest ≡ [] }
     ensures { AnswersLines K.seen K.leads caller.old caller.new
-        (record {
-          left = So.left source.old;
-          held = Si.held sink.old;
-          source_faults = So.faults source.old;
-          sink_faults = Si.faults sink.old;
-        })
-        (record {
-          left = So.left source.new;
-          held = Si.held sink.new;
-          source_faults = So.faults source.new;
-          sink_faults = Si.faults sink.new;
-        }) result }
+        (streams (So.left source.old) (Si.held sink.old) (So.faults source.old) (Si.faults sink.old))
+        (streams (So.left source.new) (Si.held sink.new) (So.faults source.new) (Si.faults sink.new)) result }
 {
     let mut reader = LineReader::new(alloc);
     'lines: loop {

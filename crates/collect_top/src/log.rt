@@ -1,6 +1,7 @@
 // The log of a device: a line for each entry.
 ghost use Rattle.std.specs.Prelude.{◌≡◌, IfOk, List, Option, ℕ};
 ghost use Rattle.device_rules.specs.Trail.{entries_of};
+ghost use Rattle.collect_script.specs.Ends.{streams};
 ghost use Rattle.collect_top.specs.Log.{LogsEntries, log_text};
 
 use collect_script::ScriptStop;
@@ -27,8 +28,8 @@ fn log_text(alloc: Global, entries: &[Marked]) -> Result<Vec<u8>, NoMemory>
 /// Puts the lines of all entries, which are made whole before the first byte goes out.
 pub fn put_log<Si: Sink>(alloc: Global, entries: &[Marked], sink: &mut Si) -> Result<(), ScriptStop>
     ensures { (left : Option (List ℕ)) (faults : ℕ) → LogsEntries (entries_of entries.now)
-        (record { left = left; held = Si.held sink.old; source_faults = faults; sink_faults = Si.faults sink.old })
-        (record { left = left; held = Si.held sink.new; source_faults = faults; sink_faults = Si.faults sink.new })
+        (streams left (Si.held sink.old) faults (Si.faults sink.old))
+        (streams left (Si.held sink.new) faults (Si.faults sink.new))
         result }
 {
     let text = match log_text(alloc, entries) {

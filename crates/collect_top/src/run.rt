@@ -3,6 +3,7 @@ ghost use Rattle.std.specs.Prelude.{◌≡◌, [], IfOk, IsTrue, List, Option, �
 ghost use Rattle.device_rules.specs.State.{initial};
 ghost use Rattle.device_rules.specs.Opened.{is_opening};
 ghost use Rattle.device_core.specs.View.{IsReady};
+ghost use Rattle.collect_script.specs.Ends.{streams};
 ghost use Rattle.collect_top.specs.Outside.{Images};
 ghost use Rattle.collect_top.specs.Parts.{own_opening};
 ghost use Rattle.collect_top.specs.Run.{AnswersOver, Closed, HasRun, LogsOver};
@@ -70,18 +71,8 @@ fn answer_script<D: Disk, So: Source, Si: Sink>(
 ) -> Worked<D>
     requires { IsReady device }
     ensures { AnswersOver (record { clock = D.clock; may = D.may; since = D.since }) D.faults device
-        (record {
-          left = So.left source.old;
-          held = Si.held sink.old;
-          source_faults = So.faults source.old;
-          sink_faults = Si.faults sink.old;
-        })
-        (record {
-          left = So.left source.new;
-          held = Si.held sink.new;
-          source_faults = So.faults source.new;
-          sink_faults = Si.faults sink.new;
-        })
+        (streams (So.left source.old) (Si.held sink.old) (So.faults source.old) (Si.faults sink.old))
+        (streams (So.left source.new) (Si.held sink.new) (So.faults source.new) (Si.faults sink.new))
         result.disk result.trail result.end }
 {
     let mut caller = DeviceCaller::new(device);
@@ -92,8 +83,8 @@ fn answer_script<D: Disk, So: Source, Si: Sink>(
 fn print_log<D: Disk, Si: Sink>(alloc: Global, sink: &mut Si, device: Device<D>) -> Worked<D>
     ensures { (left : Option (List ℕ)) (faults : ℕ)
         → LogsOver (record { clock = D.clock; may = D.may; since = D.since }) device
-        (record { left = left; held = Si.held sink.old; source_faults = faults; sink_faults = Si.faults sink.old })
-        (record { left = left; held = Si.held sink.new; source_faults = faults; sink_faults = Si.faults sink.new })
+        (streams left (Si.held sink.old) faults (Si.faults sink.old))
+        (streams left (Si.held sink.new) faults (Si.faults sink.new))
         result.disk result.trail result.end }
 {
     let worked = close(alloc, device, Ok(()));
@@ -146,18 +137,8 @@ pub fn run<So: Source, Si: Sink, D: Disk>(
     disk: D,
 ) -> Ran<D>
     ensures { HasRun (record { clock = D.clock; may = D.may; since = D.since }) D.content D.faults work disk result.disk
-        (record {
-          left = So.left source.old;
-          held = Si.held sink.old;
-          source_faults = So.faults source.old;
-          sink_faults = Si.faults sink.old;
-        })
-        (record {
-          left = So.left source.new;
-          held = Si.held sink.new;
-          source_faults = So.faults source.new;
-          sink_faults = Si.faults sink.new;
-        })
+        (streams (So.left source.old) (Si.held sink.old) (So.faults source.old) (Si.faults sink.old))
+        (streams (So.left source.new) (Si.held sink.new) (So.faults source.new) (Si.faults sink.new))
         result.trail result.end }
 {
     let opening = match opening(alloc) {

@@ -1,5 +1,5 @@
 ghost use Rattle.std.specs.Prelude.{◌≡◌, true, List, Option, ℕ};
-ghost use Rattle.collect_script.specs.Ends.{Streams};
+ghost use Rattle.collect_script.specs.Ends.{streams};
 ghost use Rattle.collect_top.specs.Headline.{Headline};
 ghost use Rattle.collect_top.specs.Outside.{Images};
 ghost use Rattle.collect_top.specs.Parts.{PutsStop};
@@ -53,8 +53,8 @@ fn is_write_fault(stop: Stop) -> bool
 fn finish<Si: Sink>(sink: &mut Si, end: Result<(), Stop>) -> u8
     ensures status { result ≡ end_status end }
     ensures stop { (left : Option (List ℕ)) (faults : ℕ) → PutsStop
-        (record { left = left; held = Si.held sink.old; source_faults = faults; sink_faults = Si.faults sink.old })
-        (record { left = left; held = Si.held sink.new; source_faults = faults; sink_faults = Si.faults sink.new })
+        (streams left (Si.held sink.old) faults (Si.faults sink.old))
+        (streams left (Si.held sink.new) faults (Si.faults sink.new))
         end }
 {
     let stop = match end {

@@ -1,4 +1,5 @@
-ghost use Rattle.std.specs.Prelude.{All, ◌≡◌, [], ◌∷◌, ◌++◌, ◌+◌, ◌<◌, ◌≤◌, length, remove, slice_get, Some, OnOk, OnErr};
+ghost use Rattle.std.specs.Prelude.{All, ◌≡◌, [], ◌∷◌, ◌++◌, ◌+◌, ◌<◌, ◌≤◌, length, remove, slice_get, Some, OnOk};
+ghost use Rattle.std.specs.Prelude.{OnErr};
 ghost use Rattle.std.specs.Prelude.{slice_set};
 ghost use Rattle.field_rows.specs.Edited.{edited};
 ghost use Rattle.instance_store.specs.Instances.{has_number, instance_limit, place_of, with_status, with_tried};
@@ -12,7 +13,8 @@ use std::marker::Model;
 /// How many instances a store keeps.
 pub const INSTANCE_LIMIT: u64 = 10_000;
 
-/// The instances that a device keeps, in the order of their numbers, with room for some more. Places are counted from 0.
+/// The instances that a device keeps, in the order of their numbers, with room for some more. Places are counted from
+/// 0.
 #[derive(Debug, Drop)]
 pub struct InstanceStore {
     rows: Rows<InstanceRec>,
@@ -96,7 +98,8 @@ impl InstanceStore {
 
     /// Puts a record with the same number in the place of one, and gives that one.
     pub fn replace(&mut self, place: u64, item: InstanceRec) -> InstanceRec
-        requires number { (kept : InstanceRec) → slice_get self.old.items place ≡ Some kept → kept.number ≡ item.number }
+        requires number { (kept : InstanceRec) → slice_get self.old.items place ≡ Some kept
+            → kept.number ≡ item.number }
         requires { place < length self.old.items }
         ensures taken { slice_get self.old.items place ≡ Some result }
         ensures records { self.new.items ≡ slice_set self.old.items place item }

@@ -12,4 +12,5 @@ same_base (Edit number) (Edit other) = number == other
 same_base _ _ = false
 
 abbrev pub same_key : Key → Key → Bool
-same_key key other = bytes_eq key.form other.form && (bytes_eq key.version other.version && same_base key.base other.base)
+same_key key other =
+    bytes_eq key.form other.form && (bytes_eq key.version other.version && same_base key.base other.base)
