@@ -1,3 +1,6 @@
+ghost use Rattle.std.specs.Prelude.{IfOk};
+ghost use Rattle.device_core.specs.View.{IsReady};
+
 use crate::*;
 use device_rules::{Answer, Caller, Query, Refused, Settings, SubmitFault, Told, is_opening};
 use disk_model::{FusedDisk, MemDisk};
@@ -22,7 +25,9 @@ const IMAGE: &[u8] =
     b"ODKDEV01\xA7\x23\0\0\0\x01\0\x01\0\0\0\0\0\0\0\x15\0\0\0http://localhost:8080\
         \xA7\x03\0\0\0\x02\0\x01\xA7\x03\0\0\0\x03\0\x02\0";
 
-fn opened(alloc: Global, disk: MemDisk) -> Result<Device<MemDisk>, Fail> {
+fn opened(alloc: Global, disk: MemDisk) -> Result<Device<MemDisk>, Fail>
+    ensures { IfOk result IsReady }
+{
     let opening = own_opening(alloc)?;
     if !is_opening(&opening) {
         return Err("no opening".into());
