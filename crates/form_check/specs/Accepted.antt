@@ -18,18 +18,18 @@ kind_word Many = codes " many"
 kind_word Group = codes " group"
 kind_word Plain = codes " plain"
 
+-- the word, if it is there
 abbrev pub word_if : Bool → List ℕ → List ℕ
 word_if true word = word
 word_if false word = []
 
--- a word where there is such an expression
-abbrev pub flag : {A : Type 0} → List ℕ → Option A → List ℕ
-flag word expr = word_if (is_some expr) word
-
+-- the words of the expressions that a field has
 abbrev pub flags : Field → List ℕ
-flags field = flag (codes " relevant") field.relevant ++ flag (codes " required") field.required
-    ++ flag (codes " readonly") field.readonly ++ flag (codes " constraint") field.constraint
-    ++ flag (codes " calculate") field.calculate
+flags field = word_if (is_some field.relevant) (codes " relevant")
+    ++ word_if (is_some field.required) (codes " required")
+    ++ word_if (is_some field.readonly) (codes " readonly")
+    ++ word_if (is_some field.constraint) (codes " constraint")
+    ++ word_if (is_some field.calculate) (codes " calculate")
 
 abbrev pub value_words : List (List ℕ) → List ℕ
 value_words values = flat_map (λ value. 32 ∷ printed_text value) values
@@ -37,7 +37,7 @@ value_words values = flat_map (λ value. 32 ∷ printed_text value) values
 abbrev pub choices_words : Choices → List ℕ
 choices_words Nothing = []
 choices_words (Fixed values) = codes " of" ++ value_words values
-choices_words (Rows table filter value) = codes " of rows " ++ printed_text table ++ flag (codes " filtered") filter
+choices_words (Rows table filter value) = codes " of rows " ++ printed_text table ++ word_if (is_some filter) (codes " filtered")
 
 abbrev pub field_line : Field → List ℕ
 field_line field =

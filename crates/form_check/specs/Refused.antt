@@ -10,20 +10,20 @@ use Rattle.rosa_doc.specs.declared.refusal.DocRefused.TheVariants as doc
 use Rattle.form_check.specs.Places.{place_behind}
 use Rattle.form_check.specs.declared.place.Place.{Place}
 
-abbrev pub place_words : ℕ → Place → List ℕ
-place_words at place =
-    codes " at " ++ decimal at ++ codes " line " ++ decimal place.line ++ codes " column " ++ decimal place.column
-
--- a word, and the place of a byte in the document
-abbrev pub at_place : List ℕ → List ℕ → ℕ → List ℕ
-at_place word document at = word ++ place_words at (place_behind (take at document))
-
 -- a word, and the path or the name that it is about
 abbrev pub named : List ℕ → List ℕ → List ℕ
 named word name = word ++ 32 ∷ printed_text name
 
 abbrev pub numbered : List ℕ → ℕ → List ℕ
 numbered word number = word ++ 32 ∷ decimal number
+
+abbrev pub placed : List ℕ → ℕ → Place → List ℕ
+placed word at place = word ++ numbered (codes " at") at ++ numbered (codes " line") place.line
+    ++ numbered (codes " column") place.column
+
+-- a word, and the place of a byte in the document
+abbrev pub at_place : List ℕ → List ℕ → ℕ → List ℕ
+at_place word document at = placed word at (place_behind (take at document))
 
 abbrev pub doc_words : List ℕ → DocRefused → List ℕ
 doc_words document (doc.NotUtf8 at) = at_place (codes "not-utf8") document at

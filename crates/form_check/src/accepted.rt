@@ -1,11 +1,11 @@
 // What is told of a form: its id and version, and a line for each field.
-ghost use Rattle.std.specs.Prelude.{◌≡◌, ◌++◌, IfOk, OnOk, option_map};
-ghost use Rattle.form_check.specs.Accepted.{choices_words, field_line, flag, flags, form_text, head_line, kind_word};
-ghost use Rattle.form_check.specs.Accepted.{value_words};
+ghost use Rattle.std.specs.Prelude.{◌≡◌, ◌++◌, IfOk, OnOk};
+ghost use Rattle.form_check.specs.Accepted.{choices_words, field_line, flags, form_text, head_line, kind_word};
+ghost use Rattle.form_check.specs.Accepted.{value_words, word_if};
 
 use collect_text::print_text;
 use field_text::{NoMemory, Text};
-use form_def::{Choices, Expr, Field, FormDef, Kind};
+use form_def::{Choices, Field, FormDef, Kind};
 use std::alloc::Global;
 
 fn kind_word(kind: Kind) -> &'static str
@@ -21,10 +21,10 @@ fn kind_word(kind: Kind) -> &'static str
     }
 }
 
-fn push_flag(word: &'static str, expr: Option<&Expr>, out: &mut Vec<u8>) -> Result<(), NoMemory>
-    ensures { OnOk result (out.new.items ≡ out.old.items ++ flag word.now (option_map (λ e. e.now) expr)) }
+fn push_word_if(is_there: bool, word: &'static str, out: &mut Vec<u8>) -> Result<(), NoMemory>
+    ensures { OnOk result (out.new.items ≡ out.old.items ++ word_if is_there word.now) }
 {
-    if expr.is_some() {
+    if is_there {
         out.extend_from_slice(word.as_bytes())?;
     }
     Ok(())
@@ -33,11 +33,11 @@ fn push_flag(word: &'static str, expr: Option<&Expr>, out: &mut Vec<u8>) -> Resu
 fn push_flags(field: &Field, out: &mut Vec<u8>) -> Result<(), NoMemory>
     ensures { OnOk result (out.new.items ≡ out.old.items ++ flags field.now) }
 {
-    push_flag(" relevant", field.relevant.as_ref(), out)?;
-    push_flag(" required", field.required.as_ref(), out)?;
-    push_flag(" readonly", field.readonly.as_ref(), out)?;
-    push_flag(" constraint", field.constraint.as_ref(), out)?;
-    push_flag(" calculate", field.calculate.as_ref(), out)
+    push_word_if(field.relevant.is_some(), " relevant", out)?;
+    push_word_if(field.required.is_some(), " required", out)?;
+    push_word_if(field.readonly.is_some(), " readonly", out)?;
+    push_word_if(field.constraint.is_some(), " constraint", out)?;
+    push_word_if(field.calculate.is_some(), " calculate", out)
 }
 
 fn push_values(values: &[Text], out: &mut Vec<u8>) -> Result<(), NoMemory>
@@ -62,7 +62,7 @@ fn push_choices(choices: &Choices, out: &mut Vec<u8>) -> Result<(), NoMemory>
         Choices::Rows { table, filter, .. } => {
             out.extend_from_slice(b" of rows ")?;
             print_text(table, out)?;
-            push_flag(" filtered", filter.as_ref(), out)
+            push_word_if(filter.is_some(), " filtered", out)
         }
     }
 }

@@ -8,6 +8,7 @@ mod refused;
 mod report;
 
 use crate::report::report;
+use std::alloc::AllocError;
 use std::io;
 use std::io::{Read, Write};
 use std::process::ExitCode;
@@ -17,7 +18,9 @@ fn checked(rt: HostRuntime) -> io::Result<bool> {
     let mut document = Vec::new(alloc);
     let mut input = rt.stdin();
     input.read_to_end(&mut document)?;
-    let report = report(alloc, document.as_slice())?;
+    let Ok(report) = report(alloc, document.as_slice()) else {
+        return Err(AllocError)?;
+    };
     let mut output = io::writer(&rt);
     output.write_all(report.text.as_slice())?;
     output.flush()?;

@@ -1,6 +1,6 @@
 // Where a byte of a document stands, as an editor counts.
-ghost use Rattle.std.specs.Prelude.{◌≡◌, length, filter};
-ghost use Rattle.form_check.specs.Places.{begins_character, is_line_feed, last_line, place_behind};
+ghost use Rattle.std.specs.Prelude.{◌≡◌, ◌+◌, ◌<◌, ◌^◌, take};
+ghost use Rattle.form_check.specs.Places.{begins_character, is_line_feed, moved, place_behind, start};
 
 /// The number of a line, and of a character in it, both from 1.
 #[derive(Clone, Copy, Debug, PartialEq, Eq)]
@@ -21,37 +21,42 @@ fn begins_character(byte: u8) -> bool
     byte < 0x80 || byte >= 0xC0
 }
 
-fn last_line(bytes: &[u8]) -> &[u8]
-    ensures { result.now ≡ last_line bytes.now }
+// The place behind one more byte.
+fn moved(place: Place, byte: u8) -> Place
+    requires line { place.line + 1 < 2 ^ 64 }
+    requires column { place.column + 1 < 2 ^ 64 }
+    ensures { result ≡ moved place byte }
 {
-    let mut start = bytes.len();
-    while start > 0 {
-        if is_line_feed(bytes[start - 1]) {
-            return &bytes[start..];
-        }
-        start -= 1;
+    if is_line_feed(byte) {
+        return Place {
+            line: place.line + 1,
+            column: 1,
+        };
     }
-    bytes
+    if begins_character(byte) {
+        return Place {
+            column: place.column + 1,
+            ..place
+        };
+    }
+    place
 }
 
-fn line_feeds(bytes: &[u8]) -> u64
-    ensures { result ≡ length (filter is_line_feed bytes.now) }
-{
-    bytes.iter().filter(|byte| is_line_feed(**byte)).count() as u64
-}
-
-fn characters(bytes: &[u8]) -> u64
-    ensures { result ≡ length (filter begins_character bytes.now) }
-{
-    bytes.iter().filter(|byte| begins_character(**byte)).count() as u64
-}
-
-/// The place behind these bytes.
-pub fn place_behind(bytes: &[u8]) -> Place
+// The place behind these bytes.
+fn place_behind(bytes: &[u8]) -> Place
     ensures { result ≡ place_behind bytes.now }
 {
-    Place {
-        line: line_feeds(bytes) + 1,
-        column: characters(last_line(bytes)) + 1,
+    let mut place = Place { line: 1, column: 1 };
+    for byte in bytes {
+        place = moved(place, *byte);
     }
+    place
+}
+
+/// The place of a byte of the document, or that behind its end.
+pub fn place_at(document: &[u8], at: u64) -> Place
+    ensures { result ≡ place_behind (take at document.now) }
+{
+    let front = (at as usize).min(document.len());
+    place_behind(&document[..front])
 }

@@ -1,46 +1,14 @@
 // Why a document is no form, in a line.
-ghost use Rattle.std.specs.Prelude.{◌≡◌, ◌++◌, IfOk, OnOk, string_bytes};
-ghost use Rattle.form_check.specs.Refused.{at_place, doc_words, expression_words, named, numbered, place_words};
+ghost use Rattle.std.specs.Prelude.{◌≡◌, ◌++◌, IfOk, OnOk};
+ghost use Rattle.form_check.specs.Refused.{at_place, doc_words, expression_words, named, numbered};
 ghost use Rattle.form_check.specs.Refused.{refused_line, refused_words};
 
-use crate::place::{Place, place_behind};
+use crate::place::{Place, place_at};
 use collect_text::print_text;
 use field_text::{NoMemory, Text, decimal_text};
 use form_read::FormRefused;
 use rosa_doc::DocRefused;
-use std::alloc::{AllocError, Global};
-
-fn place_words(alloc: Global, at: u64, place: Place) -> Result<String, AllocError>
-    ensures { IfOk result (λ text. string_bytes text ≡ place_words at place) }
-{
-    let Place { line, column } = place;
-    format!(in alloc; " at {at} line {line} column {column}")
-}
-
-// A word, and the place of a byte in the document.
-fn push_place(
-    alloc: Global,
-    word: &'static str,
-    document: &[u8],
-    at: u64,
-    out: &mut Vec<u8>,
-) -> Result<(), NoMemory>
-    ensures { OnOk result (out.new.items ≡ out.old.items ++ at_place word.now document.now at) }
-{
-    let front = &document[..document.len().min(at as usize)];
-    let words = place_words(alloc, at, place_behind(front))?;
-    out.extend_from_slice(word.as_bytes())?;
-    Ok(out.extend_from_slice(words.as_bytes())?)
-}
-
-// A word, and the path or the name that it is about.
-fn push_named(word: &'static str, name: &Text, out: &mut Vec<u8>) -> Result<(), NoMemory>
-    ensures { OnOk result (out.new.items ≡ out.old.items ++ named word.now name.now) }
-{
-    out.extend_from_slice(word.as_bytes())?;
-    out.push(b' ')?;
-    print_text(name, out)
-}
+use std::alloc::Global;
 
 // A word and a number.
 fn push_numbered(
@@ -55,6 +23,32 @@ fn push_numbered(
     out.extend_from_slice(word.as_bytes())?;
     out.push(b' ')?;
     Ok(out.extend_from_slice(digits.bytes())?)
+}
+
+// A word, and the place of a byte in the document.
+fn push_place(
+    alloc: Global,
+    word: &'static str,
+    document: &[u8],
+    at: u64,
+    out: &mut Vec<u8>,
+) -> Result<(), NoMemory>
+    ensures { OnOk result (out.new.items ≡ out.old.items ++ at_place word.now document.now at) }
+{
+    let Place { line, column } = place_at(document, at);
+    out.extend_from_slice(word.as_bytes())?;
+    push_numbered(alloc, " at", at, out)?;
+    push_numbered(alloc, " line", line, out)?;
+    push_numbered(alloc, " column", column, out)
+}
+
+// A word, and the path or the name that it is about.
+fn push_named(word: &'static str, name: &Text, out: &mut Vec<u8>) -> Result<(), NoMemory>
+    ensures { OnOk result (out.new.items ≡ out.old.items ++ named word.now name.now) }
+{
+    out.extend_from_slice(word.as_bytes())?;
+    out.push(b' ')?;
+    print_text(name, out)
 }
 
 fn push_word(word: &'static str, out: &mut Vec<u8>) -> Result<(), NoMemory>

@@ -1,5 +1,5 @@
 // What the author of a form is told of a document.
-ghost use Rattle.std.specs.Prelude.{◌≡◌, ◌≢◌, ◌⊎◌, true, IfOk};
+ghost use Rattle.std.specs.Prelude.{◌≡◌, ◌≢◌, false, IfOk};
 ghost use Rattle.form_check.specs.Reports.{Reports};
 
 use crate::accepted::form_text;
@@ -9,25 +9,25 @@ use form_read::{FormRefused, read_form};
 use std::alloc::Global;
 
 #[derive(Debug, Drop)]
-pub struct Report {
+pub struct Told {
     /// Whether the document is a form.
     pub is_form: bool,
     pub text: Vec<u8>,
 }
 
 fn is_memory(why: &FormRefused) -> bool
-    ensures { why.now ≢ FormRefused.NoMemory ⊎ (result ≡ true) }
+    ensures { result ≡ false → why.now ≢ FormRefused.NoMemory }
 {
     matches!(why, FormRefused::NoMemory)
 }
 
 /// What is told of the document. Want of memory is told of none.
-pub fn report(alloc: Global, document: &[u8]) -> Result<Report, NoMemory>
+pub fn report(alloc: Global, document: &[u8]) -> Result<Told, NoMemory>
     ensures { IfOk result (λ told. Reports document.now told.is_form told.text.items) }
 {
     let why = match read_form(alloc, document) {
         Ok(form) => {
-            return Ok(Report {
+            return Ok(Told {
                 is_form: true,
                 text: form_text(alloc, &form)?,
             });
@@ -37,7 +37,7 @@ pub fn report(alloc: Global, document: &[u8]) -> Result<Report, NoMemory>
     if is_memory(&why) {
         return Err(NoMemory);
     }
-    Ok(Report {
+    Ok(Told {
         is_form: false,
         text: refused_line(alloc, document, &why)?,
     })
