@@ -1,6 +1,5 @@
 ghost use Rattle.std.specs.Prelude.{All, ◌≡◌, [], ◌∷◌, ◌++◌, ◌+◌, ◌<◌, ◌≤◌, length, remove, slice_get, Some, OnOk};
-ghost use Rattle.std.specs.Prelude.{OnErr};
-ghost use Rattle.std.specs.Prelude.{slice_set};
+ghost use Rattle.std.specs.Prelude.{option_map, slice_set};
 ghost use Rattle.field_rows.specs.Edited.{edited};
 ghost use Rattle.instance_store.specs.Instances.{has_number, instance_limit, place_of, with_status, with_tried};
 
@@ -98,9 +97,8 @@ impl InstanceStore {
 
     /// Puts a record with the same number in the place of one, and gives that one.
     pub fn replace(&mut self, place: u64, item: InstanceRec) -> InstanceRec
-        requires number { (kept : InstanceRec) → slice_get self.old.items place ≡ Some kept
-            → kept.number ≡ item.number }
-        requires { place < length self.old.items }
+        requires number { option_map (λ kept. kept.number) (slice_get self.old.items place) ≡ Some item.number }
+        requires within { place < length self.old.items }
         ensures taken { slice_get self.old.items place ≡ Some result }
         ensures records { self.new.items ≡ slice_set self.old.items place item }
         ensures spare { self.new.spare ≡ self.old.spare }

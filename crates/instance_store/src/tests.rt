@@ -47,7 +47,9 @@ fn a_record_is_replaced(rt: HostRuntime) -> Result<(), Fail> {
     let mut store = InstanceStore::make(alloc);
     store.reserve()?;
     store.add(instance(alloc, 3)?);
-    let mut item = instance(alloc, 3)?;
+    let mut item = instance(alloc, 4)?;
+    assert!(rt; 0 < store.count());
+    item.number = store.get(0).number;
     item.final_at = 7;
     let old = store.replace(0, item);
     assert_eq!(rt; old.final_at, 0);
