@@ -1,0 +1,4 @@
+pub mod Addresses
+pub mod Requests
+pub mod Exchange
+pub mod Carrying
