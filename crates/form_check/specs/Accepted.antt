@@ -37,7 +37,8 @@ value_words values = flat_map (λ value. 32 ∷ printed_text value) values
 abbrev pub choices_words : Choices → List ℕ
 choices_words Nothing = []
 choices_words (Fixed values) = codes " of" ++ value_words values
-choices_words (Rows table filter value) = codes " of rows " ++ printed_text table ++ word_if (is_some filter) (codes " filtered")
+choices_words (Rows table filter value) =
+    codes " of rows " ++ printed_text table ++ word_if (is_some filter) (codes " filtered")
 
 abbrev pub field_line : Field → List ℕ
 field_line field =

@@ -1,5 +1,5 @@
--- Where a byte of a document stands, as an editor counts: a line feed ends a line, and a character begins with each byte
--- of UTF-8 (RFC 3629) that doesn't continue one.
+-- Where a byte of a document stands, as an editor counts: a line feed ends a line, and a character begins with each
+-- byte of UTF-8 (RFC 3629) that doesn't continue one.
 use Rattle.std.specs.Prelude.{ℕ, ◌+◌, ◌==◌, ◌||◌, nat_lt, nat_le, Bool, if◌then◌else◌, List}
 use Rattle.std.specs.List.{fold}
 use Rattle.form_check.specs.declared.place.Place.{Place}
