@@ -1,6 +1,6 @@
 -- The ids of a list differ after an action too.
-use Rattle.std.proofs.Common.{◌≡◌, ◌≢◌, Bool, true, false, true≢false, if◌then◌else◌, nat_lt, ◌+◌, ◌<◌}
-use Rattle.std.proofs.Common.{List, ℕ, [], ◌∷◌, ◌++◌, map, length, get_or, None, Ok, ap, sym, subst, refl, inl, inr, ◌∙◌}
+use Rattle.std.proofs.Common.{◌≡◌, ◌≢◌, true, false, true≢false, if◌then◌else◌, nat_lt, ◌+◌, ◌<◌}
+use Rattle.std.proofs.Common.{List, ℕ, [], ◌∷◌, ◌++◌, map, length, get_or, None, Ok, sym, subst, refl, inl, inr, ◌∙◌}
 use Rattle.std.specs.List.{list_any}
 use Rattle.std.specs.Str.{bytes_eq}
 use Rattle.std.proofs.lemmas.Bool.{cases_Bool}

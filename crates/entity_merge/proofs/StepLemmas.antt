@@ -1,5 +1,5 @@
 -- A merge is two steps: what the first gives or tells is what both give or tell.
-use Rattle.std.proofs.Common.{◌≡◌, ℕ, List, length, nat_lt, Option, Some, None, Result, Ok, Err}
+use Rattle.std.proofs.Common.{◌≡◌, ℕ, List, length, nat_lt, Option, Some, None, Result, Ok}
 use Rattle.std.proofs.Common.{ap, sym, subst, inl, inr, ◌∙◌}
 use Rattle.std.proofs.lemmas.Bool.{cases_Bool}
 use Rattle.field_text.specs.Steps.{◌>>=◌, Tells}

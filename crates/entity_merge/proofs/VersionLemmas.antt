@@ -1,13 +1,12 @@
 -- Versions stay within their limit, and what becomes of a local row is a line of the table.
-use Rattle.std.proofs.Common.{◌≡◌, ◌≢◌, ℕ, ◌+◌, ◌<◌, ◌≤◌, ◌==◌, nat_lt, not, Bool, true, false, if◌then◌else◌, All}
+use Rattle.std.proofs.Common.{◌≡◌, ◌≢◌, ℕ, ◌+◌, ◌<◌, ◌≤◌, ◌==◌, nat_lt, not, Bool, true, false, if◌then◌else◌}
 use Rattle.std.proofs.Common.{List, [], ◌∷◌, ◌++◌, length, map, filter, find, Option, Some, None, is_none, Ok}
-use Rattle.std.proofs.Common.{arith, ap, sym, subst, refl, inl, inr, ◌∙◌}
+use Rattle.std.proofs.Common.{arith, ap, subst, refl, inl, inr}
 use Rattle.std.specs.List.{cons_option, filter_map, list_any}
 use Rattle.std.specs.Str.{bytes_eq}
 use Rattle.std.proofs.lemmas.Bool.{cases_Bool, eqb-false, eqb-true, leb-false, ltb-false, ltb-true}
 use Rattle.std.proofs.lemmas.List.Elements.{All-append, All-cons, All-filter, All-head, All-map, All-nil, All-push, All-tail}
 use Rattle.field_ids.specs.Draws.{NextDraw}
-use Rattle.entity_lists.specs.FirstBy.{first_by}
 use Rattle.entity_lists.specs.ServerRows.{row_limit}
 use Rattle.entity_lists.specs.Versions.{IsVersion, is_last}
 use Rattle.entity_lists.specs.declared.entities.EntityRow.{EntityRow}
@@ -15,10 +14,10 @@ use Rattle.entity_lists.specs.declared.entities.ServerRow.{ServerRow}
 use Rattle.entity_merge.specs.declared.actions.Action.{Action}
 use Rattle.entity_merge.specs.Branches.{branch_of}
 use Rattle.entity_merge.specs.Actions.{acted_rows, created_row, created_rows, is_acted_on, is_at_end}
-use Rattle.entity_merge.specs.Actions.{row_after, updated_row, updated_rows}
+use Rattle.entity_merge.specs.Actions.{row_after, updated_rows}
 use Rattle.entity_merge.specs.Laws.{HasVersions, HaveVersions, ServeVersions}
 use Rattle.entity_merge.specs.Merging.{branch_by, drawing_rows, first_rows, is_trunk, kept_rows, local_row, merged_row}
-use Rattle.entity_merge.specs.Merging.{merged_rows, new_rows, seen_row, server_row, server_wins, taken_row, unseen_row}
+use Rattle.entity_merge.specs.Merging.{merged_rows, new_rows, seen_row, server_row, server_wins, taken_row}
 use Rattle.entity_merge.specs.VersionTable.{Becomes}
 use Rattle.entity_merge.specs.VersionTable as line
 

@@ -1,5 +1,5 @@
 -- Laws of merges and actions.
-use Rattle.std.specs.Prelude.{All, Contains, ◌≡◌, ◌<◌, false, List, Option, Some, None, IfSome}
+use Rattle.std.specs.Prelude.{All, Contains, ◌≡◌, ◌<◌, false, List, Some, None, IfSome}
 use Rattle.entity_lists.specs.Versions.{IsVersion}
 use Rattle.entity_lists.specs.declared.entities.EntityRow.{EntityRow}
 use Rattle.entity_lists.specs.declared.entities.ServerRow.{ServerRow}

@@ -1,7 +1,7 @@
 -- What becomes of a local entity list when the rows of the server are merged into it: the list and draws after it, or
 -- the refusal.
 use Rattle.std.specs.Prelude.{ℕ, ◌==◌, ◌&&◌, ◌||◌, not, nat_lt, Bool, true, false, if◌then◌else◌}
-use Rattle.std.specs.Prelude.{List, [], ◌++◌, length, map, filter, find, position}
+use Rattle.std.specs.Prelude.{List, ◌++◌, length, map, filter, find, position}
 use Rattle.std.specs.Prelude.{Option, Some, None, is_none, unwrap_or, Result, Ok, Err}
 use Rattle.std.specs.List.{filter_map}
 use denote.Ref.{Bor}

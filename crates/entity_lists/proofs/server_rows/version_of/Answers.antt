@@ -1,10 +1,10 @@
 -- The digits of a number have its value, so the bytes are those of one number or of none.
-use Rattle.std.proofs.Common.{◌≡◌, ℕ, List, ◌≤◌, nat_le, ◌&&◌, Bool, true, false, if◌then◌else◌, Option, Some, None}
-use Rattle.std.proofs.Common.{arith, ap, sym, refl, inl, inr, ◌∙◌}
+use Rattle.std.proofs.Common.{◌≡◌, ℕ, List, ◌≤◌, nat_le, ◌&&◌, true, false, if◌then◌else◌, Some, None}
+use Rattle.std.proofs.Common.{arith, ap, sym, refl, ◌∙◌}
 use Rattle.std.specs.Fmt.{decimal}
 use Rattle.std.specs.Str.{bytes_eq}
 use Rattle.std.specs.Str.Parse.{digits_value}
-use Rattle.std.proofs.lemmas.Bool.{cases_Bool, le-leb}
+use Rattle.std.proofs.lemmas.Bool.{le-leb}
 use Rattle.std.proofs.lemmas.Fmt.{decimal_is_IsNumeral}
 use Rattle.std.proofs.lemmas.Slice.Eq.{bytes_eq-Decides}
 use Rattle.entity_lists.specs.ServerRows.{version_in}

@@ -1,4 +1,4 @@
-use Rattle.std.proofs.Common.{arith, ap, length, ◌∙◌}
+use Rattle.std.proofs.Common.{arith}
 use Rattle.entity_merge.specs.Merging.{contents}
 use Rattle.entity_merge.proofs.MergeLemmas.{few_drawing, whole_list}
 use Rattle.entity_merge.proofs.merging.merged_rows.Goals as goal

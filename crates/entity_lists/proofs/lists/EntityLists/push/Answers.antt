@@ -1,4 +1,4 @@
-use Rattle.std.proofs.Common.{◌≡◌, Option, None, List, ap, sym, subst, ◌∙◌}
+use Rattle.std.proofs.Common.{ap, sym, subst, ◌∙◌}
 use Rattle.field_rows.specs.Kept.{Kept}
 use Rattle.entity_lists.specs.Lists.{NamesDiffer, list_place}
 use Rattle.entity_lists.specs.declared.entity_list.EntityList.{EntityList}

@@ -1,4 +1,4 @@
-use Rattle.std.proofs.Common.{◌≡◌, ◌<◌, length, slice_get, Option, Some, IfSome, ap, sym, subst, ◌∙◌}
+use Rattle.std.proofs.Common.{◌≡◌, ◌<◌, length, slice_get, Option, IfSome, ap, sym, subst, ◌∙◌}
 use Rattle.field_rows.specs.Kept.{Kept}
 use Rattle.entity_lists.specs.declared.entity_list.EntityList.{EntityList}
 use Rattle.entity_lists.proofs.ListLemmas.{replaced_differ}

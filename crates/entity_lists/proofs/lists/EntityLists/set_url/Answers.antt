@@ -1,4 +1,4 @@
-use Rattle.std.proofs.Common.{◌≡◌, ◌<◌, length, sym, subst, refl}
+use Rattle.std.proofs.Common.{◌<◌, length, sym, subst, refl}
 use Rattle.field_rows.specs.Kept.{Kept}
 use Rattle.entity_lists.specs.declared.entity_list.EntityList.{EntityList}
 use Rattle.entity_lists.proofs.ListLemmas.{replaced_differ}
