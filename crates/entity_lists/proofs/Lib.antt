@@ -1,5 +1,6 @@
 pub mod AllRecords
 pub mod ColumnLemmas
 pub mod FirstLemmas
+pub mod ListLemmas
 pub mod RowLemmas
 pub mod TableLemmas

@@ -10,7 +10,7 @@ use Rattle.field_text.specs.Tables.{NamedCell, NamedTable, cell_text, row_count,
 use Rattle.entity_lists.specs.EntityTables.{entity_cells, list_table, prop_cell, tables_of}
 use Rattle.entity_lists.specs.declared.entities.Prop.{Prop}
 use Rattle.entity_lists.specs.declared.entities.EntityRow.{EntityRow}
-use Rattle.entity_lists.specs.declared.entities.EntityList.{EntityList}
+use Rattle.entity_lists.specs.declared.entity_list.EntityList.{EntityList}
 
 pub find-map : {X Y : Type 0} (p : Y → Bool) (f : X → Y) (xs : List X) → find p (map f xs) ≡ option_map f (find (λ x. p (f x)) xs)
 find-map p f [] = refl

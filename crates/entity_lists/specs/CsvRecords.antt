@@ -1,4 +1,4 @@
--- The records of a CSV text (RFC 4180), as the crate `csv` reads them with its default settings and without a header of its own.
+-- The records of a CSV text (RFC 4180), as the crate `csv` reads them with its default settings, a header too.
 use Rattle.std.specs.Prelude.{ℕ, List, map}
 use denote.Ref.{Bor}
 use Rattle.csv.specs.Reading.{default_config, records, strip_bom}

@@ -4,7 +4,7 @@ use Rattle.std.specs.Fmt.{decimal}
 use Rattle.field_text.specs.Tables.{NamedCell, NamedTable}
 use Rattle.entity_lists.specs.declared.entities.Prop.{Prop}
 use Rattle.entity_lists.specs.declared.entities.EntityRow.{EntityRow}
-use Rattle.entity_lists.specs.declared.entities.EntityList.{EntityList}
+use Rattle.entity_lists.specs.declared.entity_list.EntityList.{EntityList}
 
 abbrev pub cell_of : List ℕ → List ℕ → NamedCell
 cell_of column text = record { column = column; text = text }

@@ -1,5 +1,7 @@
 -- The entities of a server's list: what a CSV text reads as, or the first fault of it.
-use Rattle.std.specs.Prelude.{ℕ, ◌+◌, ◌==◌, ◌&&◌, ◌||◌, not, nat_le, nat_lt, if◌then◌else◌, Bool, List, [], ◌∷◌, length, map, filter, take, codes, position, slice_get, Option, Some, None, is_none, unwrap_or, Result, Ok, Err}
+use Rattle.std.specs.Prelude.{ℕ, ◌+◌, ◌==◌, ◌&&◌, ◌||◌, not, nat_le, nat_lt, if◌then◌else◌, Bool}
+use Rattle.std.specs.Prelude.{List, [], ◌∷◌, length, map, filter, take, codes, position, slice_get}
+use Rattle.std.specs.Prelude.{Option, Some, None, is_none, unwrap_or, Result, Ok, Err}
 use Rattle.std.specs.List.{list_all, starts_with}
 use Rattle.std.specs.Option.{option_or}
 use Rattle.std.specs.Bool.{nat_eq}
@@ -11,7 +13,8 @@ use Rattle.entity_lists.specs.FirstBy.{first_by}
 use Rattle.entity_lists.specs.declared.entities.Prop.{Prop}
 use Rattle.entity_lists.specs.declared.entities.ServerRow.{ServerRow}
 use Rattle.entity_lists.specs.declared.server_rows.CsvRefused.{CsvRefused}
-use Rattle.entity_lists.specs.declared.server_rows.CsvRefused.TheVariants.{NoName, NoLabel, NoVersion, BadVersion, Ragged, NotUtf8, TooMany}
+use Rattle.entity_lists.specs.declared.server_rows.CsvRefused.TheVariants.{NoName, NoLabel, NoVersion}
+use Rattle.entity_lists.specs.declared.server_rows.CsvRefused.TheVariants.{BadVersion, Ragged, NotUtf8, TooMany}
 
 -- how many rows a list holds, how many properties are taken from a server's list, and its greatest version
 abbrev pub row_limit : ℕ
@@ -47,7 +50,8 @@ header_fault header =
 
 -- whether a column of this name holds a property
 abbrev pub is_property : List ℕ → Bool
-is_property name = not (bytes_eq name (codes "name") || bytes_eq name (codes "label") || starts_with nat_eq name (codes "__"))
+is_property name =
+    not (bytes_eq name (codes "name") || bytes_eq name (codes "label") || starts_with nat_eq name (codes "__"))
 
 -- the names of some columns, each once, where it stands first
 abbrev pub first_of_each : List (List ℕ) → List (List ℕ)
@@ -105,7 +109,8 @@ unless_fault None read = read
 abbrev pub rows_of_records : List (List (List ℕ)) → Result (List ServerRow) CsvRefused
 rows_of_records [] = Err NoName
 rows_of_records (header ∷ rows) =
-    unless_fault (header_fault header) (unless_fault (rows_fault header 1 rows) (Ok (filter is_named (map (server_row header) rows))))
+    unless_fault (header_fault header)
+    (unless_fault (rows_fault header 1 rows) (Ok (filter is_named (map (server_row header) rows))))
 
 abbrev pub rows_of : List ℕ → Result (List ServerRow) CsvRefused
 rows_of bytes = rows_of_records (records_of bytes)

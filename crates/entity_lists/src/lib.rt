@@ -3,9 +3,15 @@
 
 mod csv_records;
 mod entities;
+mod entity_list;
+mod lists;
 mod server_rows;
 #[cfg(test)]
 mod tests;
+mod versions;
 
-pub use entities::{EntityList, EntityLists, EntityRow, Prop, ServerRow};
+pub use entities::{EntityRow, Prop, ServerRow};
+pub use entity_list::{Entities, EntityList};
+pub use lists::EntityLists;
 pub use server_rows::{CsvRefused, ROW_LIMIT, read_server};
+pub use versions::Version;

@@ -1,12 +1,15 @@
-ghost use Rattle.std.specs.Prelude.{All, ◌≡◌, ◌⊎◌, ◌&&◌, not, true, map, filter, length, IfOk, IfErr, OnOk, codes, Some, None};
+ghost use Rattle.std.specs.Prelude.{◌≡◌, ◌⊎◌, ◌&&◌, not, true, All, map, filter, length, codes};
+ghost use Rattle.std.specs.Prelude.{Some, None, IfOk, IfErr, OnOk};
 ghost use Rattle.std.specs.List.{list_all, list_any};
 ghost use Rattle.std.specs.Str.{bytes_eq, is_utf8};
 ghost use Rattle.csv.specs.Records.{fields_of};
 ghost use Rattle.entity_lists.specs.CsvRecords.{contents};
-ghost use Rattle.entity_lists.specs.ServerRows.{column_place, header_fault, is_named, is_property, property_names, row_fault, rows_fault, rows_of, server_row, version_in};
+ghost use Rattle.entity_lists.specs.ServerRows.{column_place, header_fault, is_named, is_property};
+ghost use Rattle.entity_lists.specs.ServerRows.{property_names, row_fault, rows_fault, rows_of, server_row, version_in};
 
 use crate::csv_records::{fields_in, read_records};
 use crate::entities::{Prop, ServerRow};
+use crate::versions::Version;
 use csv::ByteRecord;
 use field_text::{Items, NoMemory, Text, TextRefused, read_decimal};
 use std::alloc::{AllocFailed, Global};
@@ -110,11 +113,11 @@ fn holds_property(name: &[u8]) -> bool
 }
 
 // The version that these bytes write.
-fn version_of(bytes: &[u8]) -> Option<u64>
+fn version_of(bytes: &[u8]) -> Option<Version>
     ensures { result ≡ version_in bytes.now }
 {
     match read_decimal(bytes) {
-        Some(value) if 1 <= value && value <= SERVER_VERSION_LIMIT => Some(value),
+        Some(value) if value <= SERVER_VERSION_LIMIT => Version::from_number(value),
         _ => None,
     }
 }
@@ -166,7 +169,8 @@ impl<'h> Header<'h> {
     fn read(alloc: Global, names: &'h [&'h [u8]]) -> Result<Header<'h>, CsvRefused>
         ensures names { IfOk result (λ header. header.names.now ≡ names.entry.now) }
         ensures ok { OnOk result (header_fault (contents names.entry.now) ≡ None) }
-        ensures err { IfErr result (λ e. (e ≡ CsvRefused.NoMemory) ⊎ (header_fault (contents names.entry.now) ≡ Some e)) }
+        ensures err { IfErr result (λ e. (e ≡ CsvRefused.NoMemory)
+            ⊎ (header_fault (contents names.entry.now) ≡ Some e)) }
     {
         if !all_text(names) {
             return Err(CsvRefused::NotUtf8 { row: 0 });
@@ -194,7 +198,8 @@ impl<'h> Header<'h> {
     fn props(&self, alloc: Global, fields: &[&[u8]]) -> Result<Items<Prop>, NoMemory>
         requires same_length { length fields.now ≡ length self.now.names.now }
         requires text { list_all is_utf8 (contents fields.now) ≡ true }
-        ensures { IfOk result (λ props. props ≡ (server_row (contents self.now.names.now) (contents fields.now)).props) }
+        ensures { IfOk result (λ props. props
+            ≡ (server_row (contents self.now.names.now) (contents fields.now)).props) }
     {
         let mut props = Vec::new(alloc);
         for column in &self.props {
@@ -209,7 +214,8 @@ impl<'h> Header<'h> {
     fn row(&self, alloc: Global, fields: &[&[u8]], row: u64) -> Result<ServerRow, CsvRefused>
         ensures ok { OnOk result (row_fault (contents self.now.names.now) row (contents fields.now) ≡ None) }
         ensures row { IfOk result (λ r. r ≡ server_row (contents self.now.names.now) (contents fields.now)) }
-        ensures err { IfErr result (λ e. (e ≡ CsvRefused.NoMemory) ⊎ (row_fault (contents self.now.names.now) row (contents fields.now) ≡ Some e)) }
+        ensures err { IfErr result (λ e. (e ≡ CsvRefused.NoMemory)
+            ⊎ (row_fault (contents self.now.names.now) row (contents fields.now) ≡ Some e)) }
     {
         if fields.len() != self.names.len() {
             return Err(CsvRefused::Ragged { row });
@@ -236,8 +242,10 @@ fn read_rows(
     records: &[ByteRecord],
 ) -> Result<Items<ServerRow>, CsvRefused>
     ensures ok { OnOk result (rows_fault (contents header.now.names.now) 1 (map fields_of records.now) ≡ None) }
-    ensures rows { IfOk result (λ rows. rows ≡ filter is_named (map (server_row (contents header.now.names.now)) (map fields_of records.now))) }
-    ensures err { IfErr result (λ e. (e ≡ CsvRefused.NoMemory) ⊎ (rows_fault (contents header.now.names.now) 1 (map fields_of records.now) ≡ Some e)) }
+    ensures rows { IfOk result (λ rows. rows
+        ≡ filter is_named (map (server_row (contents header.now.names.now)) (map fields_of records.now))) }
+    ensures err { IfErr result (λ e. (e ≡ CsvRefused.NoMemory)
+        ⊎ (rows_fault (contents header.now.names.now) 1 (map fields_of records.now) ≡ Some e)) }
 {
     let mut rows = Vec::new(alloc);
     let mut number = 0;

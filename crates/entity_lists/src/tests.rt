@@ -112,7 +112,7 @@ static CELLS: [(&str, &str); 7] = [
 fn tell(line: &mut String, row: &ServerRow) -> Result<(), Fail> {
     let id = row.id.as_str();
     let label = row.label.as_str();
-    write!(line, "{id}|{label}|{}", row.version)?;
+    write!(line, "{id}|{label}|{}", row.version.number())?;
     for prop in row.props.as_slice() {
         write!(line, "|{}={}", prop.name.as_str(), prop.value.as_str())?;
     }
@@ -247,7 +247,7 @@ fn oak(alloc: Global) -> Result<EntityRow, Fail> {
     Ok(EntityRow {
         id: text(alloc, "t1")?,
         label: text(alloc, "Oak")?,
-        version: 4,
+        version: Version::from_number(4).ok_or("none")?,
         trunk: None,
         branch: text(alloc, "b1")?,
         online: false,
@@ -265,32 +265,82 @@ fn entities_have_cells(rt: HostRuntime) -> Result<(), Fail> {
     Ok(())
 }
 
-// A list `trees` of one entity.
-fn lists(alloc: Global) -> Result<EntityLists, Fail> {
+// The list `trees` of one entity.
+fn trees(alloc: Global) -> Result<EntityList, Fail> {
     let mut rows = Items::new(alloc);
     rows.push(oak(alloc)?)?;
-    let mut lists = Items::new(alloc);
-    lists.push(EntityList {
+    Ok(EntityList {
         name: text(alloc, "trees")?,
         url: None,
-        rows,
-    })?;
-    Ok(EntityLists::from_items(lists))
+        rows: Entities::from_items(rows),
+    })
+}
+
+fn put(lists: &mut EntityLists, list: EntityList) -> Result<(), Fail> {
+    lists.reserve()?;
+    lists.put(list);
+    Ok(())
+}
+
+fn one_list(alloc: Global) -> Result<EntityLists, Fail> {
+    let mut lists = EntityLists::make(alloc);
+    put(&mut lists, trees(alloc)?)?;
+    Ok(lists)
+}
+
+fn check_cell(
+    rt: &impl Abort,
+    alloc: Global,
+    lists: &EntityLists,
+    list: &str,
+    row: u64,
+    want: &str,
+) -> Result<(), Fail> {
+    let list = text(alloc, list)?;
+    let cell = lists.cell(alloc, &list, row, &text(alloc, "label")?)?;
+    assert_eq!(rt; cell.as_str(), want);
+    Ok(())
 }
 
 #[test]
 fn lists_are_tables(rt: HostRuntime) -> Result<(), Fail> {
-    let lists = lists(rt.alloc())?;
-    for (list, rows, first) in [("trees", 1, "Oak"), ("shrubs", 0, "")] {
-        let list = text(rt.alloc(), list)?;
-        let label = text(rt.alloc(), "label")?;
-        assert_eq!(rt; lists.rows(&list), rows);
-        let cell = lists.cell(rt.alloc(), &list, 0, &label)?;
-        assert_eq!(rt; cell.as_str(), first);
-        let past = lists.cell(rt.alloc(), &list, 1, &label)?;
-        assert_eq!(rt; past.as_str(), "");
-    }
+    let lists = one_list(rt.alloc())?;
+    check_cell(&rt, rt.alloc(), &lists, "trees", 0, "Oak")?;
+    check_cell(&rt, rt.alloc(), &lists, "trees", 1, "")?;
+    check_cell(&rt, rt.alloc(), &lists, "shrubs", 0, "")?;
+    assert_eq!(rt; lists.rows(&text(rt.alloc(), "trees")?), 1);
+    Ok(())
+}
+
+#[test]
+fn entities_are_found(rt: HostRuntime) -> Result<(), Fail> {
+    let list = trees(rt.alloc())?.copy(rt.alloc())?;
+    assert_eq!(rt; list.rows.find(&text(rt.alloc(), "t1")?), Some(0));
+    assert_eq!(rt; list.rows.find(&text(rt.alloc(), "t2")?), None);
+    assert_eq!(rt; list.rows.as_slice().len(), 1);
+    Ok(())
+}
+
+#[test]
+fn lists_are_put_and_found(rt: HostRuntime) -> Result<(), Fail> {
+    let mut lists = one_list(rt.alloc())?.copy(rt.alloc())?;
+    let other = trees(rt.alloc())?.with_rows(rt.alloc(), Entities::new(rt.alloc()))?;
+    put(&mut lists, other)?;
+    let place = lists.find(&text(rt.alloc(), "trees")?).ok_or("none")?;
+    assert!(rt; place < lists.count());
+    lists.set_url(place, Some(text(rt.alloc(), "/t.csv")?));
+    assert!(rt; place < lists.count());
+    assert!(rt; lists.get(place).url.is_some());
     assert_eq!(rt; lists.as_slice().len(), 1);
-    assert_eq!(rt; lists.into_items().len(), 1);
+    assert_eq!(rt; lists.rows(&text(rt.alloc(), "trees")?), 0);
+    Ok(())
+}
+
+#[test]
+fn versions_have_numbers(rt: HostRuntime) -> Result<(), Fail> {
+    let last = Version::from_number(1_000_000_000_000_000).ok_or("none")?;
+    assert!(rt; last.is_last());
+    assert!(rt; !Version::first().is_last());
+    assert_eq!(rt; Version::first().next().number(), 2);
     Ok(())
 }

@@ -1,3 +1,5 @@
 pub mod ActionLemmas
 pub mod MergeLemmas
 pub mod StayLemmas
+pub mod StepLemmas
+pub mod VersionLemmas

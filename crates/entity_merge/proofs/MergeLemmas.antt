@@ -8,10 +8,11 @@ use Rattle.std.proofs.lemmas.List.Elements.{All-append, All-cons, All-head, All-
 use Rattle.std.proofs.lemmas.List.Kept.{AllPairs-cons, AllPairs-filter}
 use Rattle.std.proofs.lemmas.Slice.Eq.{bytes_eq-Decides}
 use Rattle.std.proofs.Math.Seq.{take-suc}
+use Rattle.field_ids.specs.Draws.{NextDraw}
 use Rattle.entity_lists.specs.declared.entities.EntityRow.{EntityRow}
 use Rattle.entity_lists.specs.declared.entities.ServerRow.{ServerRow}
 use Rattle.entity_lists.proofs.FirstLemmas.{any_first_by, first_by-push, has_key, if_new, if_passes, length-filter-le, length-first_by}
-use Rattle.entity_merge.specs.Merging.{contents, draws_branch, drawing_rows, first_rows, fresh_branch, local_row, merged_row, merged_rows, seen_row, server_row, server_wins, taken_row}
+use Rattle.entity_merge.specs.Merging.{branch_by, contents, draws_branch, drawing_rows, first_rows, kept_rows, local_row, merged_row, merged_rows, new_rows, seen_row, server_row, server_wins, taken_row}
 
 abbrev row_id : ServerRow → List ℕ
 row_id s = s.id
@@ -151,9 +152,9 @@ merged_keeps branch rows l r None e h = unseen_keeps l r l.online h
 merged_keeps branch rows l r (Some s) e h = seen_keeps (branch s) l r s (server_wins l s) ((bytes_eq-Decides s.id l.id).0 (found_passes (λ (x : ServerRow). bytes_eq x.id l.id) rows s e)) h
 
 -- the ids of a merged list differ
-pub merged_differ : (locals : List EntityRow) (rows : List ServerRow) (device next : ℕ) → AllPairs OtherId locals → AllPairs OtherId (merged_rows locals rows device next)
-merged_differ locals rows device next h =
-    let branch : ServerRow → List ℕ = λ s. fresh_branch (drawing_rows locals rows) device next s.id in
+pub merged_differ : (locals : List EntityRow) (rows : List ServerRow) (draws : NextDraw) → AllPairs OtherId locals → AllPairs OtherId (merged_rows locals rows draws)
+merged_differ locals rows draws h =
+    let branch : ServerRow → List ℕ = branch_by (drawing_rows locals rows) draws in
     let f : EntityRow → Option EntityRow = λ l. merged_row branch l (server_row rows l.id) in
     let g : ServerRow → EntityRow = λ s. taken_row s (branch s) in
     let unknown : ServerRow → Bool = λ s. is_none (local_row locals s.id) in
@@ -194,14 +195,16 @@ all_unknown_draw locals rows =
     (λ s none. ap (λ (o : Option EntityRow). draws_branch o s) (is_none_none (local_row locals s.id) none)) (first_rows rows)
 
 -- the rows that stay and the new ones are the merged list
-pub whole_list : (locals : List EntityRow) (rows : List ServerRow) (device next : ℕ) (a b items : List (Bor ServerRow)) (kept new all : List EntityRow)
-    → a ≡ items → b ≡ items → contents items ≡ drawing_rows locals rows
-    → kept ≡ filter_map (λ (l : EntityRow). merged_row (λ (s : ServerRow). fresh_branch (contents a) device next s.id) l (server_row rows l.id)) locals
-    → new ≡ map (λ (s : ServerRow). taken_row s (fresh_branch (contents b) device next s.id)) (filter (λ (s : ServerRow). is_none (local_row locals s.id)) (contents b))
-    → all ≡ kept ++ new → all ≡ merged_rows locals rows device next
-whole_list locals rows device next a b items kept new all a_is b_is drawn kept_is new_is all_is =
-    let stay = λ (d : List ServerRow). filter_map (λ (l : EntityRow). merged_row (λ (s : ServerRow). fresh_branch d device next s.id) l (server_row rows l.id)) locals in
-    let come = λ (d : List ServerRow). map (λ (s : ServerRow). taken_row s (fresh_branch d device next s.id)) (filter (λ (s : ServerRow). is_none (local_row locals s.id)) d) in
-    let all_new = ap (map (λ (s : ServerRow). taken_row s (fresh_branch (drawing_rows locals rows) device next s.id))) (all_unknown_draw locals rows) in
-    all_is ∙ ap (λ (k : List EntityRow). k ++ new) (kept_is ∙ ap stay (ap contents a_is ∙ drawn))
-    ∙ ap (λ (n : List EntityRow). stay (drawing_rows locals rows) ++ n) (new_is ∙ ap come (ap contents b_is ∙ drawn) ∙ all_new)
+pub whole_list : (locals : List EntityRow) (rows drawing : List ServerRow) (draws : NextDraw) (kept new all : List EntityRow)
+    → drawing ≡ drawing_rows locals rows
+    → kept ≡ kept_rows locals rows (branch_by drawing draws)
+    → new ≡ new_rows locals drawing (branch_by drawing draws)
+    → all ≡ kept ++ new → all ≡ merged_rows locals rows draws
+whole_list locals rows drawing draws kept new all drawn kept_is new_is all_is =
+    let stay = λ (d : List ServerRow). kept_rows locals rows (branch_by d draws) in
+    let come = λ (d : List ServerRow). new_rows locals d (branch_by d draws) in
+    let taken = λ (s : ServerRow). taken_row s (branch_by (drawing_rows locals rows) draws s) in
+    all_is
+    ∙ ap (λ (k : List EntityRow). k ++ new) (kept_is ∙ ap stay drawn)
+    ∙ ap (λ (n : List EntityRow). stay (drawing_rows locals rows) ++ n)
+    (new_is ∙ ap come drawn ∙ ap (map taken) (all_unknown_draw locals rows))

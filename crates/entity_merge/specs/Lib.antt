@@ -1,2 +1,5 @@
 pub mod Actions
+pub mod Branches
+pub mod Laws
 pub mod Merging
+pub mod VersionTable

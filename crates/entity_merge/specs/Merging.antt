@@ -1,12 +1,22 @@
--- What becomes of a local entity list when the server's is merged into it.
-use Rattle.std.specs.Prelude.{All, Contains, ◌≡◌, ◌<◌, ℕ, ◌+◌, ◌==◌, ◌&&◌, ◌||◌, not, nat_lt, Bool, true, false, if◌then◌else◌, List, [], ◌++◌, map, filter, find, position, Option, Some, None, is_none, unwrap_or}
+-- What becomes of a local entity list when the rows of the server are merged into it: the list and draws after it, or
+-- the refusal.
+use Rattle.std.specs.Prelude.{ℕ, ◌==◌, ◌&&◌, ◌||◌, not, nat_lt, Bool, true, false, if◌then◌else◌}
+use Rattle.std.specs.Prelude.{List, ◌++◌, length, map, filter, find, position}
+use Rattle.std.specs.Prelude.{Option, Some, None, is_none, unwrap_or, Result, Ok, Err}
 use Rattle.std.specs.List.{filter_map}
 use denote.Ref.{Bor}
 use Rattle.std.specs.Str.{bytes_eq}
+use Rattle.field_text.specs.Steps.{◌>>=◌}
+use Rattle.field_ids.specs.Draws.{NextDraw, drawn}
 use Rattle.entity_lists.specs.FirstBy.{first_by}
+use Rattle.entity_lists.specs.Lists.{with_rows}
+use Rattle.entity_lists.specs.ServerRows.{row_limit}
 use Rattle.entity_lists.specs.declared.entities.EntityRow.{EntityRow}
 use Rattle.entity_lists.specs.declared.entities.ServerRow.{ServerRow}
-use Rattle.field_ids.specs.Ids.{id_of, text_of_id}
+use Rattle.entity_lists.specs.declared.entity_list.EntityList.{EntityList}
+use Rattle.entity_merge.specs.Branches.{branch_of}
+use Rattle.entity_merge.specs.declared.merging.MergeRefused.{MergeRefused}
+use Rattle.entity_merge.specs.declared.merging.MergeRefused.TheVariants.{NoMemory, TooManyRecords}
 
 -- the rows that a list of references points to
 abbrev pub contents : List (Bor ServerRow) → List ServerRow
@@ -23,7 +33,7 @@ server_row rows id = find (λ s. bytes_eq s.id id) rows
 abbrev pub first_rows : List ServerRow → List ServerRow
 first_rows rows = first_by (λ s. s.id) rows
 
--- ---- which values win
+-- ---- what becomes of a row
 
 abbrev pub is_trunk : Option ℕ → ℕ → Bool
 is_trunk None version = false
@@ -32,6 +42,29 @@ is_trunk (Some trunk) version = trunk == version
 -- the server's values replace those of an older local version, and of the same version with another trunk
 abbrev pub server_wins : EntityRow → ServerRow → Bool
 server_wins l s = nat_lt l.version s.version || ((l.version == s.version) && not (is_trunk l.trunk s.version))
+
+abbrev pub taken_row : ServerRow → List ℕ → EntityRow
+taken_row s branch = record {
+  id = s.id;
+  label = s.label;
+  version = s.version;
+  trunk = Some s.version;
+  branch = branch;
+  online = true;
+  props = s.props;
+}
+
+abbrev pub seen_row : EntityRow → EntityRow
+seen_row l = record l { online = true }
+
+-- a local row that the server lacks goes if it was online
+abbrev pub unseen_row : EntityRow → Option EntityRow
+unseen_row l = if l.online then None else Some l
+
+-- a local row after the server's of its id, which may start a branch
+abbrev pub merged_row : (ServerRow → List ℕ) → EntityRow → Option ServerRow → Option EntityRow
+merged_row branch l None = unseen_row l
+merged_row branch l (Some s) = Some (if server_wins l s then taken_row s (branch s) else seen_row l)
 
 -- ---- the branches that are drawn
 
@@ -46,39 +79,35 @@ drawing_rows locals rows = filter (λ s. draws_branch (local_row locals s.id) s)
 abbrev pub place_among : List ServerRow → List ℕ → ℕ
 place_among rows id = unwrap_or (position (λ s. bytes_eq s.id id) rows) 0
 
--- the branch that the draws give to a row of the server, the first of them being `next`
-abbrev pub fresh_branch : List ServerRow → ℕ → ℕ → List ℕ → List ℕ
-fresh_branch drawing device next id = text_of_id (id_of device (next + place_among drawing id))
+-- the branch that a row starts, which is one of those that draw
+abbrev pub branch_by : List ServerRow → NextDraw → ServerRow → List ℕ
+branch_by drawing draws s = branch_of (drawn draws (place_among drawing s.id))
 
--- ---- the rows after it
+-- ---- the whole list
 
-abbrev pub taken_row : ServerRow → List ℕ → EntityRow
-taken_row s branch = record { id = s.id; label = s.label; version = s.version; trunk = Some s.version; branch = branch; online = true; props = s.props }
+-- local rows stay in their order
+abbrev pub kept_rows : List EntityRow → List ServerRow → (ServerRow → List ℕ) → List EntityRow
+kept_rows locals rows branch = filter_map (λ l. merged_row branch l (server_row rows l.id)) locals
 
-abbrev pub seen_row : EntityRow → EntityRow
-seen_row l = record l { online = true }
+-- of these rows of the server those that the local list lacks
+abbrev pub new_rows : List EntityRow → List ServerRow → (ServerRow → List ℕ) → List EntityRow
+new_rows locals rows branch = map (λ s. taken_row s (branch s)) (filter (λ s. is_none (local_row locals s.id)) rows)
 
--- a local row that the server lacks goes if it was online
-abbrev pub unseen_row : EntityRow → Option EntityRow
-unseen_row l = if l.online then None else Some l
+-- the server's new rows follow the local ones in their own order
+abbrev pub merged_rows : List EntityRow → List ServerRow → NextDraw → List EntityRow
+merged_rows locals rows draws =
+    let branch : ServerRow → List ℕ = branch_by (drawing_rows locals rows) draws in
+    kept_rows locals rows branch ++ new_rows locals (first_rows rows) branch
 
-abbrev pub merged_row : (ServerRow → List ℕ) → EntityRow → Option ServerRow → Option EntityRow
-merged_row branch l None = unseen_row l
-merged_row branch l (Some s) = Some (if server_wins l s then taken_row s (branch s) else seen_row l)
+abbrev pub within_limit : List EntityRow → Result (List EntityRow) MergeRefused
+within_limit rows = if nat_lt row_limit (length rows) then Err (TooManyRecords (length rows)) else Ok rows
 
--- local rows stay in their order, and the server's new rows follow in theirs
-abbrev pub merged_rows : List EntityRow → List ServerRow → ℕ → ℕ → List EntityRow
-merged_rows locals rows device next =
-    let branch : ServerRow → List ℕ = λ s. fresh_branch (drawing_rows locals rows) device next s.id in
-    filter_map (λ l. merged_row branch l (server_row rows l.id)) locals
-    ++ map (λ s. taken_row s (branch s)) (filter (λ s. is_none (local_row locals s.id)) (first_rows rows))
+abbrev pub merged : EntityList → List ServerRow → NextDraw → Result (EntityList × NextDraw) MergeRefused
+merged list rows draws = do
+  after ← within_limit (merged_rows list.rows rows draws)
+  Ok (with_rows list after, drawn draws (length (drawing_rows list.rows rows)))
 
--- ---- what is not lost
-
--- an offline row that the server lacks stays as it was
-abbrev pub OfflineStay : List EntityRow → List ServerRow → List EntityRow → Type 0
-OfflineStay locals rows merged = All (λ l. l.online ≡ false → server_row rows l.id ≡ None → Contains merged l) locals
-
--- a row newer than the server's keeps its values
-abbrev pub NewerStay : List EntityRow → List ServerRow → List EntityRow → Type 0
-NewerStay locals rows merged = All (λ l. (s : ServerRow) → server_row rows l.id ≡ Some s → s.version < l.version → Contains merged (seen_row l)) locals
+-- each refusal but want of memory is one that the definition gives
+abbrev pub fault_of : MergeRefused → Option MergeRefused
+fault_of (TooManyRecords count) = Some (TooManyRecords count)
+fault_of NoMemory = None

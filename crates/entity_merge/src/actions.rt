@@ -1,17 +1,20 @@
-ghost use Rattle.std.specs.Prelude.{All, ◌≡◌, ◌≢◌, ◌⊎◌, ◌+◌, ◌<◌, ◌^◌, ◌++◌, ◌∷◌, [], ◌==◌, fold, length, map, position, true, false, IfOk, IfErr, OnOk, if◌then◌else◌};
+ghost use Rattle.std.specs.Prelude.{◌≡◌, ◌+◌, ◌<◌, ◌^◌, ◌++◌, ◌∷◌, [], fold, map, position, true, false, None};
+ghost use Rattle.std.specs.Prelude.{IfOk, OnOk};
 ghost use Rattle.std.specs.List.{list_any};
 ghost use Rattle.std.specs.Str.{bytes_eq};
-ghost use Rattle.field_ids.specs.Ids.{id_of, text_of_id};
-ghost use Rattle.entity_merge.specs.Actions.{acted_rows, action_fault, created_row, is_at_end, put_prop, row_after, updated_row, version_limit};
+ghost use Rattle.field_text.specs.Steps.{Gives};
+ghost use Rattle.entity_lists.specs.Entities.{entity_place};
+ghost use Rattle.entity_lists.specs.Versions.{is_last};
+ghost use Rattle.entity_merge.specs.Branches.{branch_of};
+ghost use Rattle.entity_merge.specs.Actions.{acted, acted_rows, created_row, created_rows, draws_after, fault_of};
+ghost use Rattle.entity_merge.specs.Actions.{is_acted_on, is_at_end, label_after, put_prop, row_after};
+ghost use Rattle.entity_merge.specs.Actions.{updated_row, updated_rows};
 
-use crate::copies::{copy_prop, copy_props, copy_row, copy_url};
-use entity_lists::{EntityList, EntityRow, Prop, ROW_LIMIT};
-use field_ids::{Draws, draw};
+use crate::branches::branch_of;
+use entity_lists::{Entities, EntityList, EntityRow, Prop, ROW_LIMIT, Version};
+use field_ids::Draws;
 use field_text::{Items, NoMemory, Text};
 use std::alloc::{AllocFailed, Global};
-
-/// The greatest version of an entity.
-const VERSION_LIMIT: u64 = 1_000_000_000_000_000;
 
 /// What a finalized form does to an entity (ODK Entities).
 #[derive(Debug, Drop)]
@@ -55,16 +58,6 @@ impl<T: Drop> From<AllocFailed<T>> for ActionRefused {
     }
 }
 
-fn copy_rows(alloc: Global, rows: &[EntityRow]) -> Result<Vec<EntityRow>, NoMemory>
-    ensures { IfOk result (λ v. v.items ≡ rows.now) }
-{
-    let mut copy = Vec::new(alloc);
-    for row in rows {
-        copy.push(copy_row(alloc, row)?)?;
-    }
-    Ok(copy)
-}
-
 fn place_of(props: &[Prop], name: &Text) -> Option<usize>
     ensures { result ≡ position (λ p. bytes_eq p.name name.now) props.now }
 {
@@ -76,7 +69,7 @@ fn place_of(props: &[Prop], name: &Text) -> Option<usize>
 fn put(alloc: Global, props: &mut Items<Prop>, new: &Prop) -> Result<(), NoMemory>
     ensures { OnOk result (props.new ≡ put_prop props.old new.now) }
 {
-    let copy = copy_prop(alloc, new)?;
+    let copy = new.copy(alloc)?;
     match place_of(props.as_slice(), &new.name) {
         Some(place) => props.set(place, copy),
         None => props.push(copy)?,
@@ -87,7 +80,7 @@ fn put(alloc: Global, props: &mut Items<Prop>, new: &Prop) -> Result<(), NoMemor
 fn put_all(alloc: Global, props: &[Prop], new: &[Prop]) -> Result<Items<Prop>, NoMemory>
     ensures { IfOk result (λ v. v ≡ fold put_prop props.now new.now) }
 {
-    let mut all = copy_props(alloc, props)?;
+    let mut all = Prop::copy_all(alloc, props)?;
     for prop in new {
         put(alloc, &mut all, prop)?;
     }
@@ -95,7 +88,7 @@ fn put_all(alloc: Global, props: &[Prop], new: &[Prop]) -> Result<Items<Prop>, N
 }
 
 fn label_after(alloc: Global, action: &Action, row: &EntityRow) -> Result<Text, NoMemory>
-    ensures { IfOk result (λ label. label ≡ (if length action.now.label == 0 then row.now.label else action.now.label)) }
+    ensures { IfOk result (λ label. label ≡ label_after action.now row.now) }
 {
     if action.label.bytes().is_empty() {
         row.label.copy(alloc)
@@ -104,14 +97,14 @@ fn label_after(alloc: Global, action: &Action, row: &EntityRow) -> Result<Text, 
     }
 }
 
-fn updated(alloc: Global, action: &Action, row: &EntityRow) -> Result<EntityRow, NoMemory>
-    requires { row.now.version < version_limit }
+fn updated_row(alloc: Global, action: &Action, row: &EntityRow) -> Result<EntityRow, NoMemory>
+    requires { is_last row.now.version ≡ false }
     ensures { IfOk result (λ r. r ≡ updated_row action.now row.now) }
 {
     Ok(EntityRow {
         id: row.id.copy(alloc)?,
         label: label_after(alloc, action, row)?,
-        version: row.version + 1,
+        version: row.version.next(),
         trunk: row.trunk,
         branch: row.branch.copy(alloc)?,
         online: row.online,
@@ -120,47 +113,90 @@ fn updated(alloc: Global, action: &Action, row: &EntityRow) -> Result<EntityRow,
 }
 
 fn is_acted_on(action: &Action, row: &EntityRow) -> bool
-    ensures { result ≡ bytes_eq row.now.id action.now.id }
+    ensures { result ≡ is_acted_on action.now row.now }
 {
     row.id.bytes() == action.id.bytes()
 }
 
-fn ends_at(action: &Action, row: &EntityRow) -> bool
+fn is_at_end(action: &Action, row: &EntityRow) -> bool
     ensures { result ≡ is_at_end action.now row.now }
 {
-    is_acted_on(action, row) && VERSION_LIMIT <= row.version
+    is_acted_on(action, row) && row.version.is_last()
 }
 
 fn some_at_end(action: &Action, rows: &[EntityRow]) -> bool
     ensures { result ≡ list_any (is_at_end action.now) rows.now }
 {
-    rows.iter().any(|row| ends_at(action, row))
+    rows.iter().any(|row| is_at_end(action, row))
 }
 
-fn after(alloc: Global, action: &Action, row: &EntityRow) -> Result<EntityRow, NoMemory>
+fn row_after(alloc: Global, action: &Action, row: &EntityRow) -> Result<EntityRow, NoMemory>
     requires { is_at_end action.now row.now ≡ false }
     ensures { IfOk result (λ r. r ≡ row_after action.now row.now) }
 {
     if is_acted_on(action, row) {
-        updated(alloc, action, row)
+        updated_row(alloc, action, row)
     } else {
-        copy_row(alloc, row)
+        row.copy(alloc)
     }
+}
+
+fn rows_after(
+    alloc: Global,
+    action: &Action,
+    rows: &[EntityRow],
+) -> Result<Items<EntityRow>, NoMemory>
+    requires { list_any (is_at_end action.now) rows.now ≡ false }
+    ensures { IfOk result (λ v. v ≡ map (row_after action.now) rows.now) }
+{
+    let mut after = Vec::new(alloc);
+    for row in rows {
+        after.push(row_after(alloc, action, row)?)?;
+    }
+    Ok(Items::from_vec(after))
 }
 
 fn updated_rows(
     alloc: Global,
     action: &Action,
     rows: &[EntityRow],
-) -> Result<Vec<EntityRow>, NoMemory>
-    requires { list_any (is_at_end action.now) rows.now ≡ false }
-    ensures { IfOk result (λ v. v.items ≡ map (row_after action.now) rows.now) }
+) -> Result<Items<EntityRow>, ActionRefused>
+    ensures { Gives fault_of (λ v. v) result (updated_rows rows.now action.now) }
 {
-    let mut updated = Vec::new(alloc);
-    for row in rows {
-        updated.push(after(alloc, action, row)?)?;
+    if some_at_end(action, rows) {
+        let id = action.id.copy(alloc)?;
+        return Err(ActionRefused::AtEnd { id });
     }
-    Ok(updated)
+    Ok(rows_after(alloc, action, rows)?)
+}
+
+fn created_row(alloc: Global, action: &Action, draws: Draws) -> Result<EntityRow, NoMemory>
+    requires { draws.next < 2 ^ 62 }
+    ensures { IfOk result (λ row. row ≡ created_row action.now (branch_of draws)) }
+{
+    Ok(EntityRow {
+        id: action.id.copy(alloc)?,
+        label: action.label.copy(alloc)?,
+        version: Version::first(),
+        trunk: None,
+        branch: branch_of(alloc, draws)?,
+        online: false,
+        props: Prop::copy_all(alloc, action.props.as_slice())?,
+    })
+}
+
+fn with_created(
+    alloc: Global,
+    action: &Action,
+    rows: &[EntityRow],
+    draws: Draws,
+) -> Result<Items<EntityRow>, NoMemory>
+    requires { draws.next < 2 ^ 62 }
+    ensures { IfOk result (λ v. v ≡ rows.now ++ created_row action.now (branch_of draws) ∷ []) }
+{
+    let mut all = EntityRow::copy_all(alloc, rows)?;
+    all.push(created_row(alloc, action, draws)?)?;
+    Ok(all)
 }
 
 fn created_rows(
@@ -168,49 +204,39 @@ fn created_rows(
     action: &Action,
     rows: &[EntityRow],
     draws: Draws,
-) -> Result<Vec<EntityRow>, NoMemory>
-    requires room { draws.next < 2 ^ 62 }
-    ensures { IfOk result (λ v. v.items ≡ rows.now ++ created_row action.now (text_of_id (id_of draws.device draws.next)) ∷ []) }
+) -> Result<Items<EntityRow>, ActionRefused>
+    requires { draws.next < 2 ^ 62 }
+    ensures { Gives fault_of (λ v. v) result (created_rows rows.now action.now (branch_of draws)) }
 {
-    let mut created = copy_rows(alloc, rows)?;
-    created.push(EntityRow {
-        id: action.id.copy(alloc)?,
-        label: action.label.copy(alloc)?,
-        version: 1,
-        trunk: None,
-        branch: draw(draws.device, draws.next).text(alloc)?,
-        online: false,
-        props: copy_props(alloc, action.props.as_slice())?,
-    })?;
-    Ok(created)
+    let count = rows.len() as u64 + 1;
+    if count > ROW_LIMIT {
+        return Err(ActionRefused::TooManyRecords { count });
+    }
+    Ok(with_created(alloc, action, rows, draws)?)
 }
 
 // The rows after an action.
-fn rows_after(
+fn acted_rows(
     alloc: Global,
     action: &Action,
     rows: &[EntityRow],
     draws: Draws,
-) -> Result<Vec<EntityRow>, ActionRefused>
-    requires room { draws.next < 2 ^ 62 }
-    ensures rows { IfOk result (λ v. v.items ≡ acted_rows rows.now action.now (text_of_id (id_of draws.device draws.next))) }
-    ensures ok { OnOk result (action_fault rows.now action.now ≡ None) }
-    ensures refused { IfErr result (λ e. (e ≡ ActionRefused.NoMemory) ⊎ (action_fault rows.now action.now ≡ Some e)) }
+) -> Result<Items<EntityRow>, ActionRefused>
+    requires { draws.next < 2 ^ 62 }
+    ensures { Gives fault_of (λ v. v) result (acted_rows rows.now action.now draws) }
 {
     if action.create {
-        let count = rows.len() as u64 + 1;
-        if count > ROW_LIMIT {
-            return Err(ActionRefused::TooManyRecords { count });
-        }
-        Ok(created_rows(alloc, action, rows, draws)?)
+        created_rows(alloc, action, rows, draws)
     } else {
-        if some_at_end(action, rows) {
-            return Err(ActionRefused::AtEnd {
-                id: action.id.copy(alloc)?,
-            });
-        }
-        Ok(updated_rows(alloc, action, rows)?)
+        updated_rows(alloc, action, rows)
     }
+}
+
+fn draws_after(action: &Action, draws: Draws) -> Draws
+    requires { draws.next < 2 ^ 62 }
+    ensures { result ≡ draws_after action.now draws }
+{
+    if action.create { draws.after(1) } else { draws }
 }
 
 /// The list after an action of a form, and the draws after that. A creation takes a draw, for its branch.
@@ -223,31 +249,10 @@ pub fn apply_action(
     draws: Draws,
 ) -> Result<(EntityList, Draws), ActionRefused>
     requires room { draws.next < 2 ^ 62 }
-    requires absent { action.now.create ≡ true → All (λ r. r.id ≢ action.now.id) list.now.rows }
-    ensures rows { IfOk result (λ r. r.0.rows ≡ acted_rows list.now.rows action.now (text_of_id (id_of draws.device draws.next))) }
-    ensures name { IfOk result (λ r. r.0.name ≡ list.now.name) }
-    ensures url { IfOk result (λ r. r.0.url ≡ list.now.url) }
-    ensures device { IfOk result (λ r. r.1.device ≡ draws.device) }
-    ensures next { IfOk result (λ r. r.1.next ≡ (if action.now.create then draws.next + 1 else draws.next)) }
-    ensures ok { OnOk result (action_fault list.now.rows action.now ≡ None) }
-    ensures refused { IfErr result (λ e. (e ≡ ActionRefused.NoMemory) ⊎ (action_fault list.now.rows action.now ≡ Some e)) }
+    requires absent { action.now.create ≡ true → entity_place action.now.id list.now.rows ≡ None }
+    ensures { Gives fault_of (λ after. after) result (acted list.now action.now draws) }
 {
-    let rows = rows_after(alloc, action, list.rows.as_slice(), draws)?;
-    let list = EntityList {
-        name: list.name.copy(alloc)?,
-        url: copy_url(alloc, &list.url)?,
-        rows: Items::from_vec(rows),
-    };
-    let next = if action.create {
-        draws.next + 1
-    } else {
-        draws.next
-    };
-    Ok((
-        list,
-        Draws {
-            device: draws.device,
-            next,
-        },
-    ))
+    let rows = acted_rows(alloc, action, list.rows.as_slice(), draws)?;
+    let after = list.with_rows(alloc, Entities::from_items(rows))?;
+    Ok((after, draws_after(action, draws)))
 }

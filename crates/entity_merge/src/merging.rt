@@ -1,15 +1,17 @@
-ghost use Rattle.std.specs.Prelude.{◌≡◌, ◌⊎◌, ◌+◌, ◌<◌, ◌≤◌, ◌^◌, map, filter, length, IfOk, IfErr, OnOk, position, is_none, not, ◌&&◌};
-ghost use Rattle.std.specs.List.{filter_map, list_any};
+ghost use Rattle.std.specs.Prelude.{◌≡◌, ◌+◌, ◌<◌, ◌≤◌, ◌^◌, ◌&&◌, length, position, is_none, not, IfOk};
+ghost use Rattle.std.specs.List.{list_any};
 ghost use Rattle.std.specs.Option.{option_copied};
 ghost use Rattle.std.specs.Str.{bytes_eq};
-ghost use Rattle.entity_lists.specs.ServerRows.{row_limit};
-ghost use Rattle.entity_merge.specs.Merging.{NewerStay, OfflineStay, contents, draws_branch, drawing_rows, fresh_branch, is_trunk, local_row, merged_row, merged_rows, seen_row, server_row, server_wins, taken_row, unseen_row};
+ghost use Rattle.field_text.specs.Steps.{Gives};
+ghost use Rattle.entity_merge.specs.Merging.{branch_by, contents, drawing_rows, draws_branch, fault_of, is_trunk};
+ghost use Rattle.entity_merge.specs.Merging.{kept_rows, local_row, merged, merged_row, merged_rows, new_rows};
+ghost use Rattle.entity_merge.specs.Merging.{seen_row, server_row, server_wins, taken_row, unseen_row, within_limit};
 
-use crate::copies::{copy_props, copy_row, copy_url};
-use entity_lists::{EntityList, EntityRow, ROW_LIMIT, ServerRow};
-use field_ids::{Draws, draw};
+use crate::branches::branch_of;
+use entity_lists::{Entities, EntityList, EntityRow, Prop, ROW_LIMIT, ServerRow, Version};
+use field_ids::Draws;
 use field_text::{Items, NoMemory, Text};
-use std::alloc::{AllocError, Global};
+use std::alloc::Global;
 
 /// Why a server's list isn't merged.
 #[derive(Clone, Copy, Debug, PartialEq, Eq)]
@@ -25,16 +27,6 @@ impl From<NoMemory> for MergeRefused {
     ghost from_gives = { λ _ e. e ≡ MergeRefused.NoMemory };
 
     fn from(_: NoMemory) -> MergeRefused {
-        MergeRefused::NoMemory
-    }
-}
-
-impl From<AllocError> for MergeRefused {
-    ghost use Rattle.entity_merge.specs.declared.merging.MergeRefused.{MergeRefused};
-
-    ghost from_gives = { λ _ e. e ≡ MergeRefused.NoMemory };
-
-    fn from(_: AllocError) -> MergeRefused {
         MergeRefused::NoMemory
     }
 }
@@ -58,34 +50,35 @@ fn is_among(rows: &[ServerRow], id: &Text) -> bool
     rows.iter().any(|row| row.id.bytes() == id.bytes())
 }
 
-fn wins(local: &EntityRow, server: &ServerRow) -> bool
-    ensures { result ≡ server_wins local.now server.now }
-{
-    local.version < server.version
-        || (local.version == server.version && !has_trunk(local.trunk, server.version))
-}
-
-fn has_trunk(trunk: Option<u64>, version: u64) -> bool
+fn is_trunk(trunk: Option<Version>, version: Version) -> bool
     ensures { result ≡ is_trunk trunk version }
 {
     match trunk {
-        Some(trunk) => trunk == version,
+        Some(trunk) => trunk.number() == version.number(),
         None => false,
     }
+}
+
+fn server_wins(local: &EntityRow, server: &ServerRow) -> bool
+    ensures { result ≡ server_wins local.now server.now }
+{
+    let (old, new) = (local.version.number(), server.version.number());
+    old < new || (old == new && !is_trunk(local.trunk, server.version))
 }
 
 fn starts_branch(locals: &[EntityRow], server: &ServerRow) -> bool
     ensures { result ≡ draws_branch (local_row locals.now server.now.id) server.now }
 {
     match local_of(locals, &server.id) {
-        Some(local) => wins(local, server),
+        Some(local) => server_wins(local, server),
         None => true,
     }
 }
 
 // Whether a row behind these is the first of its id and starts a branch.
 fn draws_here(locals: &[EntityRow], before: &[ServerRow], row: &ServerRow) -> bool
-    ensures { result ≡ (not (list_any (λ s. bytes_eq s.id row.now.id) before.now) && draws_branch (local_row locals.now row.now.id) row.now) }
+    ensures { result ≡ (not (list_any (λ s. bytes_eq s.id row.now.id) before.now)
+        && draws_branch (local_row locals.now row.now.id) row.now) }
 {
     !is_among(before, &row.id) && starts_branch(locals, row)
 }
@@ -119,22 +112,22 @@ fn place_in(drawing: &[&ServerRow], id: &Text) -> Option<usize>
     drawing.iter().position(|row| row.id.bytes() == id.bytes())
 }
 
-// The text of the branch that a row starts.
-fn branch_of(
+// The branch that a row starts.
+fn branch_by(
     alloc: Global,
     drawing: &[&ServerRow],
     draws: Draws,
-    id: &Text,
+    server: &ServerRow,
 ) -> Result<Text, NoMemory>
     requires room { draws.next < 2 ^ 62 }
     requires rooms { draws.next + length drawing.now ≤ 2 ^ 62 }
-    ensures { IfOk result (λ branch. branch ≡ fresh_branch (contents drawing.now) draws.device draws.next id.now) }
+    ensures { IfOk result (λ branch. branch ≡ branch_by (contents drawing.now) draws server.now) }
 {
-    let place = place_in(drawing, id).unwrap_or(0) as u64;
-    draw(draws.device, draws.next + place).text(alloc)
+    let place = place_in(drawing, &server.id).unwrap_or(0) as u64;
+    branch_of(alloc, draws.after(place))
 }
 
-fn taken(
+fn taken_row(
     alloc: Global,
     drawing: &[&ServerRow],
     draws: Draws,
@@ -142,29 +135,39 @@ fn taken(
 ) -> Result<EntityRow, NoMemory>
     requires room { draws.next < 2 ^ 62 }
     requires rooms { draws.next + length drawing.now ≤ 2 ^ 62 }
-    ensures { IfOk result (λ row. row ≡ taken_row server.now (fresh_branch (contents drawing.now) draws.device draws.next server.now.id)) }
+    ensures { IfOk result (λ row. row ≡ taken_row server.now (branch_by (contents drawing.now) draws server.now)) }
 {
     Ok(EntityRow {
         id: server.id.copy(alloc)?,
         label: server.label.copy(alloc)?,
         version: server.version,
         trunk: Some(server.version),
-        branch: branch_of(alloc, drawing, draws, &server.id)?,
+        branch: branch_by(alloc, drawing, draws, server)?,
         online: true,
-        props: copy_props(alloc, server.props.as_slice())?,
+        props: Prop::copy_all(alloc, server.props.as_slice())?,
     })
 }
 
-fn seen(alloc: Global, local: &EntityRow) -> Result<EntityRow, NoMemory>
+fn seen_row(alloc: Global, local: &EntityRow) -> Result<EntityRow, NoMemory>
     ensures { IfOk result (λ row. row ≡ seen_row local.now) }
 {
-    let mut row = copy_row(alloc, local)?;
+    let mut row = local.copy(alloc)?;
     row.online = true;
     Ok(row)
 }
 
+fn unseen_row(alloc: Global, local: &EntityRow) -> Result<Option<EntityRow>, NoMemory>
+    ensures { IfOk result (λ row. row ≡ unseen_row local.now) }
+{
+    if local.online {
+        Ok(None)
+    } else {
+        Ok(Some(local.copy(alloc)?))
+    }
+}
+
 // What becomes of a local row.
-fn kept_row(
+fn merged_row(
     alloc: Global,
     rows: &[ServerRow],
     drawing: &[&ServerRow],
@@ -173,27 +176,18 @@ fn kept_row(
 ) -> Result<Option<EntityRow>, NoMemory>
     requires room { draws.next + length rows.now ≤ 2 ^ 62 }
     requires rooms { draws.next + length drawing.now ≤ 2 ^ 62 }
-    ensures { IfOk result (λ row. row ≡ merged_row (λ s. fresh_branch (contents drawing.now) draws.device draws.next s.id) local.now (server_row rows.now local.now.id)) }
+    ensures { IfOk result (λ row. row
+        ≡ merged_row (branch_by (contents drawing.now) draws) local.now (server_row rows.now local.now.id)) }
 {
     match server_of(rows, &local.id) {
         Some(server) => {
-            if wins(local, server) {
-                Ok(Some(taken(alloc, drawing, draws, server)?))
+            if server_wins(local, server) {
+                Ok(Some(taken_row(alloc, drawing, draws, server)?))
             } else {
-                Ok(Some(seen(alloc, local)?))
+                Ok(Some(seen_row(alloc, local)?))
             }
         }
-        None => unseen(alloc, local),
-    }
-}
-
-fn unseen(alloc: Global, local: &EntityRow) -> Result<Option<EntityRow>, NoMemory>
-    ensures { IfOk result (λ row. row ≡ unseen_row local.now) }
-{
-    if local.online {
-        Ok(None)
-    } else {
-        Ok(Some(copy_row(alloc, local)?))
+        None => unseen_row(alloc, local),
     }
 }
 
@@ -207,11 +201,12 @@ fn kept_rows(
 ) -> Result<Vec<EntityRow>, NoMemory>
     requires room { draws.next + length rows.now ≤ 2 ^ 62 }
     requires rooms { draws.next + length drawing.now ≤ 2 ^ 62 }
-    ensures { IfOk result (λ v. v.items ≡ filter_map (λ l. merged_row (λ s. fresh_branch (contents drawing.now) draws.device draws.next s.id) l (server_row rows.now l.id)) locals.now) }
+    ensures { IfOk result (λ v. v.items
+        ≡ kept_rows locals.now rows.now (branch_by (contents drawing.now) draws)) }
 {
     let mut kept = Vec::new(alloc);
     for local in locals {
-        if let Some(row) = kept_row(alloc, rows, drawing, draws, local)? {
+        if let Some(row) = merged_row(alloc, rows, drawing, draws, local)? {
             kept.push(row)?;
         }
     }
@@ -226,15 +221,43 @@ fn new_rows(
     draws: Draws,
 ) -> Result<Vec<EntityRow>, NoMemory>
     requires { draws.next + length drawing.now ≤ 2 ^ 62 }
-    ensures { IfOk result (λ v. v.items ≡ map (λ s. taken_row s (fresh_branch (contents drawing.now) draws.device draws.next s.id)) (filter (λ s. is_none (local_row locals.now s.id)) (contents drawing.now))) }
+    ensures { IfOk result (λ v. v.items
+        ≡ new_rows locals.now (contents drawing.now) (branch_by (contents drawing.now) draws)) }
 {
     let mut new = Vec::new(alloc);
     for row in drawing {
         if is_unknown(locals, row) {
-            new.push(taken(alloc, drawing, draws, row)?)?;
+            new.push(taken_row(alloc, drawing, draws, row)?)?;
         }
     }
     Ok(new)
+}
+
+fn merged_rows(
+    alloc: Global,
+    locals: &[EntityRow],
+    rows: &[ServerRow],
+    drawing: &[&ServerRow],
+    draws: Draws,
+) -> Result<Vec<EntityRow>, NoMemory>
+    requires room { draws.next + length rows.now ≤ 2 ^ 62 }
+    requires drawing { contents drawing.now ≡ drawing_rows locals.now rows.now }
+    ensures { IfOk result (λ v. v.items ≡ merged_rows locals.now rows.now draws) }
+{
+    let mut merged = kept_rows(alloc, locals, rows, drawing, draws)?;
+    let mut new = new_rows(alloc, locals, drawing, draws)?;
+    merged.append(&mut new)?;
+    Ok(merged)
+}
+
+fn within_limit(rows: Vec<EntityRow>) -> Result<Items<EntityRow>, MergeRefused>
+    ensures { Gives fault_of (λ v. v) result (within_limit rows.items) }
+{
+    let count = rows.len() as u64;
+    if count > ROW_LIMIT {
+        return Err(MergeRefused::TooManyRecords { count });
+    }
+    Ok(Items::from_vec(rows))
 }
 
 /// The list after the server's rows were merged into it, and the draws after that.
@@ -247,37 +270,12 @@ pub fn merge(
     draws: Draws,
 ) -> Result<(EntityList, Draws), MergeRefused>
     requires { draws.next + length rows.now ≤ 2 ^ 62 }
-    ensures rows { IfOk result (λ r. r.0.rows ≡ merged_rows list.now.rows rows.now draws.device draws.next) }
-    ensures name { IfOk result (λ r. r.0.name ≡ list.now.name) }
-    ensures url { IfOk result (λ r. r.0.url ≡ list.now.url) }
-    ensures device { IfOk result (λ r. r.1.device ≡ draws.device) }
-    ensures next { IfOk result (λ r. r.1.next ≡ draws.next + length (drawing_rows list.now.rows rows.now)) }
-
-    // What was made here, or changed since the server's version, isn't lost.
-    ensures offline_stay { IfOk result (λ r. OfflineStay list.now.rows rows.now r.0.rows) }
-    ensures newer_stay { IfOk result (λ r. NewerStay list.now.rows rows.now r.0.rows) }
-
-    // The list that comes of it is refused exactly where it is too long.
-    ensures fits { OnOk result (length (merged_rows list.now.rows rows.now draws.device draws.next) ≤ row_limit) }
-    ensures refused { IfErr result (λ e. (e ≡ MergeRefused.NoMemory) ⊎ ((e ≡ MergeRefused.TooManyRecords (length (merged_rows list.now.rows rows.now draws.device draws.next))) × (row_limit < length (merged_rows list.now.rows rows.now draws.device draws.next)))) }
+    ensures { Gives fault_of (λ after. after) result (merged list.now rows.now draws) }
 {
     let locals = list.rows.as_slice();
     let drawing = drawing(alloc, locals, rows)?;
-    let mut merged = kept_rows(alloc, locals, rows, drawing.as_slice(), draws)?;
-    let mut new = new_rows(alloc, locals, drawing.as_slice(), draws)?;
-    merged.append(&mut new)?;
-    let count = merged.len() as u64;
-    if count > ROW_LIMIT {
-        return Err(MergeRefused::TooManyRecords { count });
-    }
-    let merged = EntityList {
-        name: list.name.copy(alloc)?,
-        url: copy_url(alloc, &list.url)?,
-        rows: Items::from_vec(merged),
-    };
-    let draws = Draws {
-        device: draws.device,
-        next: draws.next + drawing.len() as u64,
-    };
-    Ok((merged, draws))
+    let all = merged_rows(alloc, locals, rows, drawing.as_slice(), draws)?;
+    let all = within_limit(all)?;
+    let after = list.with_rows(alloc, Entities::from_items(all))?;
+    Ok((after, draws.after(drawing.len() as u64)))
 }

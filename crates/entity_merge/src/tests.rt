@@ -1,7 +1,8 @@
-ghost use Rattle.std.specs.Prelude.{All, ◌≡◌, ◌≢◌, ◌↔◌, IfOk, IsTrue, length};
+ghost use Rattle.std.specs.Prelude.{◌≡◌, ◌↔◌, None, IfOk, IsTrue, length};
+ghost use Rattle.entity_lists.specs.Entities.{entity_place};
 
 use crate::*;
-use entity_lists::{EntityList, EntityRow, Prop, ServerRow, read_server};
+use entity_lists::{Entities, EntityList, EntityRow, Prop, ServerRow, read_server};
 use field_ids::Draws;
 use field_text::{Items, Text};
 use std::alloc::Global;
@@ -10,8 +11,8 @@ use std::test::Fail;
 
 type Pairs = &'static [(&'static str, &'static str)];
 
-// To a list that has an offline row `e` with the branch of draw 1: rows of the server that are merged, rows that then get
-// another label, rows of the server that are merged behind that, the list of it, and the next draw.
+// To a list that has an offline row `e` with the branch of draw 1: rows of the server that are merged, rows that then
+// get another label, rows of the server that are merged behind that, the list of it, and the next draw.
 type Case = (&'static str, Pairs, &'static str, &'static str, u64);
 
 static MERGES: [Case; 15] = [
@@ -110,9 +111,9 @@ fn tell(line: &mut String, row: &EntityRow) -> Result<(), Fail> {
         .unwrap_or("other");
     let id = row.id.as_str();
     let label = row.label.as_str();
-    write!(line, "{id} {label} {} ", row.version)?;
+    write!(line, "{id} {label} {} ", row.version.number())?;
     match row.trunk {
-        Some(trunk) => write!(line, "{trunk} ")?,
+        Some(trunk) => write!(line, "{} ", trunk.number())?,
         None => line.push_str("- ")?,
     }
     write!(line, "{branch} {}", row.online)?;
@@ -138,17 +139,17 @@ fn empty(alloc: Global) -> Result<EntityList, Fail>
     Ok(EntityList {
         name: text(alloc, "trees")?,
         url: None,
-        rows: Items::new(alloc),
+        rows: Entities::new(alloc),
     })
 }
 
 fn lacks(list: &EntityList, id: &Text) -> bool
-    ensures { IsTrue result ↔ All (λ r. r.id ≢ id.now) list.now.rows }
+    ensures { IsTrue result ↔ (entity_place id.now list.now.rows ≡ None) }
 {
-    list.rows
-        .as_slice()
-        .iter()
-        .all(|row| row.id.bytes() != id.bytes())
+    match list.rows.find(id) {
+        Some(_) => false,
+        None => true,
+    }
 }
 
 type Acted = Result<(EntityList, Draws), ActionRefused>;
@@ -258,6 +259,12 @@ fn lists_are_merged_by_their_versions(rt: HostRuntime) -> Result<(), Fail> {
     Ok(())
 }
 
+static BEFORE: &str = "a A1 1 1 01 true h=1;b B1 2 2 02 true h=1;c C1 2 1 03 true h=1;\
+    d D1 3 2 04 true h=1;e E1 1 - 05 false h=1;f F1 1 1 06 true h=1;";
+
+static AFTER: &str = "a A2 2 2 33 true h=2;b B1 2 2 02 true h=1;c C2 2 2 34 true h=2;\
+    d D1 3 2 04 true h=1;e E1 1 - 05 false h=1;g G 5 5 32 true h=1;";
+
 // Rows in each state that a row may have, with the branches of the draws 1 to 6.
 fn in_each_state(rt: &impl Abort, alloc: Global) -> Result<EntityList, Fail> {
     let draws = Draws { device: 1, next: 1 };
@@ -273,18 +280,14 @@ fn in_each_state(rt: &impl Abort, alloc: Global) -> Result<EntityList, Fail> {
 #[test]
 fn each_state_has_its_line(rt: HostRuntime) -> Result<(), Fail> {
     let list = in_each_state(&rt, rt.alloc())?;
-    let before =
-        "a A1 1 1 01 true h=1;b B1 2 2 02 true h=1;c C1 2 1 03 true h=1;d D1 3 2 04 true h=1;e E1 1 - 05 false h=1;f F1 1 1 06 true h=1;";
-    check_list(&rt, rt.alloc(), &list, before)?;
+    check_list(&rt, rt.alloc(), &list, BEFORE)?;
     let served = "g,G,5,1\na,A2,2,2\nb,B2,2,2\nc,C2,2,2\nd,D2,2,2\na,A9,9,9\n";
     let draws = Draws {
         device: 1,
         next: 50,
     };
     let (list, draws) = merged(&rt, rt.alloc(), &list, served, draws)?;
-    let after =
-        "a A2 2 2 33 true h=2;b B1 2 2 02 true h=1;c C2 2 2 34 true h=2;d D1 3 2 04 true h=1;e E1 1 - 05 false h=1;g G 5 5 32 true h=1;";
-    check_list(&rt, rt.alloc(), &list, after)?;
+    check_list(&rt, rt.alloc(), &list, AFTER)?;
     assert_eq!(rt; draws.device, 1);
     assert_eq!(rt; draws.next, 53);
     Ok(())

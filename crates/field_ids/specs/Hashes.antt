@@ -1,5 +1,6 @@
--- The hash of a form, as an OpenRosa form list writes it: `md5:` and the hexadecimal digits of the MD5 digest (RFC 1321).
-use Rattle.std.specs.Prelude.{ℕ, ◌==◌, ◌&&◌, Bool, false, if◌then◌else◌, List, ◌++◌, codes, drop, length, map, Option, Some, None}
+-- The hash of a form, as an OpenRosa form list has it: the MD5 digest (RFC 1321) in hexadecimal digits, behind `md5:`.
+use Rattle.std.specs.Prelude.{ℕ, ◌==◌, ◌&&◌, Bool, false, if◌then◌else◌}
+use Rattle.std.specs.Prelude.{List, ◌++◌, codes, drop, length, map, Option, Some, None}
 use Rattle.std.specs.Bool.{nat_eq}
 use Rattle.std.specs.Char.{is_ascii_hexdigit, to_ascii_lowercase}
 use Rattle.std.specs.List.{list_all, starts_with}

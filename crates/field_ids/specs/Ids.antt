@@ -1,9 +1,9 @@
--- The ids that a device draws: UUIDs of version 8 (RFC 9562, section 5.8), whose 122 free bits are the device and a counter.
+-- The ids that a device draws: UUIDs of version 8 (RFC 9562, section 5.8), whose free bits hold device and counter.
 use Rattle.std.specs.Prelude.{ℕ, ◌+◌, ◌*◌, ◌^◌, List}
 use Rattle.std.specs.Int.{to_be_bytes, w128}
 use Rattle.uuid.specs.Text.{hyphenated_text, lower}
 
--- from the high bits down: 48 bits of the device, the version 8 in 4 bits, 12 bits 0, the variant 10, and 62 bits of the counter
+-- from the high bits down: 48 bits of the device, 4 of the version 8, 12 of 0, 2 of the variant, 62 of the counter
 abbrev pub id_number : ℕ → ℕ → ℕ
 id_number device counter = device * 2 ^ 80 + 8 * 2 ^ 76 + 2 * 2 ^ 62 + counter
 

@@ -10,7 +10,7 @@ use field_text::{NoMemory, Text};
 use md5::{Digest, Md5};
 use std::alloc::Global;
 
-/// `md5:` and the 32 lower-case digits of the MD5 digest.
+/// The hash of a form as a form list writes it: the MD5 digest (RFC 1321) in lower case, behind `md5:`.
 pub fn hash_text(alloc: Global, bytes: &[u8]) -> Result<Text, NoMemory>
     ensures { IfOk result (λ text. text ≡ hash_of bytes.now) }
 {
@@ -39,7 +39,7 @@ fn are_digits(bytes: &[u8]) -> bool
     bytes.len() == 32 && all_digits(bytes)
 }
 
-/// Whether a text is `md5:` and 32 hexadecimal digits of either case.
+/// Whether a form list may give the text as a hash.
 pub fn is_hash(text: &Text) -> bool
     ensures { result ≡ is_hash text.now }
 {
@@ -49,7 +49,7 @@ pub fn is_hash(text: &Text) -> bool
     }
 }
 
-/// Whether both texts are `md5:` and then the same digits, each of either case.
+/// Whether two hashes differ at most in the case of their digits.
 pub fn same_hash(a: &Text, b: &Text) -> bool
     ensures { result ≡ same_hash a.now b.now }
 {
@@ -69,7 +69,7 @@ fn have_digest(digits: &[u8], bytes: &[u8]) -> bool
     }
 }
 
-/// Whether a text is the hash of these bytes, its digits in either case.
+/// Whether these bytes have the hash, whatever the case of its digits.
 pub fn hash_matches(hash: &Text, bytes: &[u8]) -> bool
     ensures { result ≡ is_hash_of hash.now bytes.now }
 {

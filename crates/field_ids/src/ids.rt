@@ -13,9 +13,33 @@ use uuid::{Uuid, Variant};
 pub struct Draws {
     pub device: u64,
     pub next: u64,
-    ghost device_in_range: { device < 2 ^ 48 },
-    ghost from_one: { 1 ≤ next },
-    ghost in_range: { next ≤ 2 ^ 62 },
+}
+
+impl Model for Draws {
+    ghost use Rattle.field_ids.specs.Draws.{IsInRange, NextDraw};
+
+    ghost Value = { NextDraw };
+
+    ghost view = { λ d. record { device = d.device; next = d.next } };
+
+    ghost invariant = { λ d. IsInRange (record { device = d.device; next = d.next }) };
+
+    ghost inverse = { λ draws. record { device = draws.device; next = draws.next } };
+}
+
+impl Draws {
+    ghost use Rattle.field_ids.specs.Draws.{drawn};
+
+    /// The draws once so many ids were drawn.
+    pub fn after(self, count: u64) -> Draws
+        requires { self.next + count ≤ 2 ^ 62 }
+        ensures { result ≡ drawn self count }
+    {
+        Draws {
+            device: self.device,
+            next: self.next + count,
+        }
+    }
 }
 
 /// An id: a UUID, which contracts see as its sixteen bytes.
@@ -53,7 +77,8 @@ pub fn draw(device: u64, counter: u64) -> Id
 
     // Other arguments give another id, and another text.
     ensures unique { (d c : ℕ) → d < 2 ^ 48 → c < 2 ^ 62 → result ≡ id_of d c → (d ≡ device) × (c ≡ counter) }
-    ensures unique_text { (d c : ℕ) → d < 2 ^ 48 → c < 2 ^ 62 → text_of_id result ≡ text_of_id (id_of d c) → (d ≡ device) × (c ≡ counter) }
+    ensures unique_text { (d c : ℕ) → d < 2 ^ 48 → c < 2 ^ 62 → text_of_id result ≡ text_of_id (id_of d c)
+        → (d ≡ device) × (c ≡ counter) }
 {
     let high = device * 0x1_0000 + 0x8000;
     let low = 0x8000_0000_0000_0000 + counter;

@@ -1,16 +1,11 @@
-use Rattle.std.proofs.Common.{List, AllPairs, ap, sym, subst, ◌∙◌}
-use Rattle.field_ids.specs.Ids.{id_of, text_of_id}
+use Rattle.std.proofs.Common.{List, ap, sym, ◌∙◌}
 use Rattle.entity_lists.specs.declared.entities.EntityRow.{EntityRow}
 use Rattle.entity_merge.specs.Actions.{acted_rows}
 use Rattle.entity_merge.proofs.ActionLemmas.{acted_differ}
-use Rattle.entity_merge.proofs.MergeLemmas.{OtherId}
 use Rattle.entity_merge.proofs.actions.apply_action.Goals as goal
 
-pub invariant_of-list : goal.invariant_of-list
-invariant_of-list c =
-    let branch = text_of_id (id_of c.args.draws.device c.args.draws.next) in
-    let rows = c.from_vec.ensures ∙ c.in_ok-rows.ensures.rows ∙ ap (λ (l : List EntityRow). acted_rows l c.args.action.now branch) c.as_slice.ensures in
-    record {
-      ids_differ = subst (λ (l : List EntityRow). AllPairs OtherId l) (sym rows)
-          (acted_differ c.args.list.now.rows c.args.action.now branch c.args.list.now.ids_differ c.requires.absent);
-    }
+pub from_items-requires : goal.from_items-requires
+from_items-requires c =
+    let action = c.args.action.now in
+    let told = ap (λ (rows : List EntityRow). acted_rows rows action c.args.draws) (sym c.as_slice.ensures.rows) ∙ c.in_ok-rows.ensures in
+    acted_differ c.args.list.now.rows action c.args.draws c.in_ok-rows.rows c.as_slice.ensures.ids_differ c.requires.absent told

@@ -1,7 +1,7 @@
 use Rattle.std.proofs.Common.{◌≡◌, ◌+◌, ◌++◌, ◌∷◌, [], List, Option, Some, None, Vec, Global, take, ap, sym, ◌∙◌}
 use Rattle.std.specs.List.{cons_option, filter_map}
 use Rattle.entity_lists.specs.declared.entities.EntityRow.{EntityRow}
-use Rattle.entity_merge.specs.Merging.{contents, fresh_branch, merged_row, server_row}
+use Rattle.entity_merge.specs.Merging.{branch_by, contents, merged_row, server_row}
 use Rattle.entity_merge.proofs.MergeLemmas.{local_step}
 use Rattle.std.proofs.lemmas.List.{append-nil}
 use Rattle.entity_merge.proofs.merging.kept_rows.Goals as goal
@@ -13,7 +13,7 @@ loop-local-preserved c =
     let i = c.loop-local.local-index in
     let x = c.local-item.result in
     let kept = c.loop-local.kept.items in
-    let f : EntityRow → Option EntityRow = λ r. merged_row (λ s. fresh_branch (contents c.args.drawing.now) c.args.draws.device c.args.draws.next s.id) r (server_row c.args.rows.now r.id) in
+    let f : EntityRow → Option EntityRow = λ r. merged_row (branch_by (contents c.args.drawing.now) c.args.draws) r (server_row c.args.rows.now r.id) in
     let step = local_step f locals i x c.loop-local-test.true c.local-item.is in
     let joined = λ (o : Option EntityRow) (is : f x ≡ o). sym (step ∙ ap (λ (n : Option EntityRow). filter_map f (take i locals) ++ cons_option n []) is) in
     elim c.match-branch-2.branch [

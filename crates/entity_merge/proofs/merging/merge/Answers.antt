@@ -1,61 +1,50 @@
--- The merged list is made of its two parts, and its ids differ.
-use Rattle.std.proofs.Common.{◌≡◌, ◌<◌, ◌≤◌, List, AllPairs, length, arith, ap, sym, subst, inr, ◌∙◌}
-use Rattle.entity_lists.specs.ServerRows.{row_limit}
+-- The rows are the merged ones, within the limit, and their ids differ.
+use Rattle.std.proofs.Common.{◌≡◌, List, Ok, length, arith, ap, sym, subst, ◌∙◌}
+use Rattle.std.proofs.lemmas.List.{length-map}
+use Rattle.std.proofs.lemmas.Result.{err_from_is_err_and}
+use Rattle.entity_lists.specs.Entities.{IdsDiffer}
+use Rattle.entity_lists.specs.Lists.{with_rows}
 use Rattle.entity_lists.specs.declared.entities.EntityRow.{EntityRow}
-use Rattle.entity_merge.specs.Merging.{NewerStay, OfflineStay, merged_rows}
-use Rattle.entity_merge.proofs.StayLemmas.{newer_rows_stay, offline_rows_stay}
-use Rattle.entity_merge.specs.declared.merging.MergeRefused.TheVariants.{TooManyRecords}
-use Rattle.entity_merge.proofs.MergeLemmas.{OtherId, few_drawing, merged_differ, whole_list}
+use Rattle.entity_merge.specs.Merging.{drawing_rows, fault_of, merged_rows}
+use Rattle.entity_merge.proofs.MergeLemmas.{few_drawing, merged_differ}
+use Rattle.entity_merge.proofs.StepLemmas.{merged_gives, merged_tells, within_same}
 use Rattle.entity_merge.proofs.merging.merge.Goals as goal
 
-pub kept_rows-requires-clause-rooms : goal.kept_rows-requires-clause-rooms
-kept_rows-requires-clause-rooms c =
-    omega (arith, few_drawing c.as_slice-locals.result.now c.args.rows.now c.in_ok-drawing.drawing.items c.in_ok-drawing.ensures, ap length c.as_slice.ensures.value)
+pub returns-in_err-all-2 : goal.returns-in_err-all-2
+returns-in_err-all-2 c =
+    let is = c.in_ok-all.ensures
+    ∙ ap (λ (l : List EntityRow). merged_rows l c.args.rows.now c.args.draws) c.as_slice-locals.ensures.rows in
+    let p = err_from_is_err_and c.from_residual-in_err-all-2.result c.from_residual-in_err-all-2.ensures.1 in
+    rw (p.1, p.2) (merged_tells c.args.list.now c.args.rows.now c.args.draws c.in_ok-all.all.items
+    (fault_of c.in_err-all-2.field-0.0) is c.in_err-all-2.ensures)
 
-pub new_rows-requires : goal.new_rows-requires
-new_rows-requires c =
-    omega (arith, few_drawing c.as_slice-locals.result.now c.args.rows.now c.in_ok-drawing.drawing.items c.in_ok-drawing.ensures, ap length c.as_slice-2.ensures.value)
+pub from_items-requires : goal.from_items-requires
+from_items-requires c =
+    let is = c.in_ok-all.ensures
+    ∙ ap (λ (l : List EntityRow). merged_rows l c.args.rows.now c.args.draws) c.as_slice-locals.ensures.rows in
+    let kept = within_same c.in_ok-all.all.items c.in_ok-all-2.all c.in_ok-all-2.ensures in
+    subst IdsDiffer (sym is ∙ kept)
+    (merged_differ c.args.list.now.rows c.args.rows.now c.args.draws c.as_slice-locals.ensures.ids_differ)
 
-pub returns-then-count-gt-ROW_LIMIT-clause-refused : goal.returns-then-count-gt-ROW_LIMIT-clause-refused
-returns-then-count-gt-ROW_LIMIT-clause-refused c =
-    let all = whole_list c.as_slice-locals.result.now c.args.rows.now c.args.draws.device c.args.draws.next _ _ _ _ _ _ c.as_slice.ensures.value c.as_slice-2.ensures.value c.in_ok-drawing.ensures c.in_ok-merged.ensures c.in_ok-new.ensures c.in_ok-append.ensures.items ∙ ap (λ (l : List EntityRow). merged_rows l c.args.rows.now c.args.draws.device c.args.draws.next) c.as_slice-locals.ensures in
-    let count : c.len-count.result ≡ length (merged_rows c.args.list.now.rows c.args.rows.now c.args.draws.device c.args.draws.next) = c.len-count.ensures ∙ c.append.new.self.ok.0 ∙ ap length all in
-    inr (ap TooManyRecords count, subst (λ n. row_limit < n) count c.if-count-gt-ROW_LIMIT.true)
+pub after-requires : goal.after-requires
+after-requires c =
+    let items = c.in_ok-drawing.drawing.items in
+    let few = few_drawing c.as_slice-locals.result.now c.args.rows.now items c.in_ok-drawing.ensures in
+    let len : c.len.result ≡ length items = c.len.ensures ∙ c.in_ok-drawing.drawing.ok.0 in
+    omega (arith, c.requires, few, len)
 
-pub invariant_of-merged : goal.invariant_of-merged
-invariant_of-merged c =
-    let all = whole_list c.as_slice-locals.result.now c.args.rows.now c.args.draws.device c.args.draws.next _ _ _ _ _ _ c.as_slice.ensures.value c.as_slice-2.ensures.value c.in_ok-drawing.ensures c.in_ok-merged.ensures c.in_ok-new.ensures c.in_ok-append.ensures.items ∙ ap (λ (l : List EntityRow). merged_rows l c.args.rows.now c.args.draws.device c.args.draws.next) c.as_slice-locals.ensures in
-    record {
-      ids_differ = subst (λ (l : List EntityRow). AllPairs OtherId l) (sym (c.from_vec.ensures ∙ all))
-          (merged_differ c.args.list.now.rows c.args.rows.now c.args.draws.device c.args.draws.next c.args.list.now.ids_differ);
-    }
-
-pub invariant_of-draws : goal.invariant_of-draws
-invariant_of-draws c =
-    let few = few_drawing c.as_slice-locals.result.now c.args.rows.now c.in_ok-drawing.drawing.items c.in_ok-drawing.ensures in
-    let len : c.len.result ≡ length c.in_ok-drawing.drawing.items = c.len.ensures ∙ c.in_ok-drawing.drawing.ok.0 in
-    record {
-      device_in_range = c.args.draws.device_in_range;
-      from_one = omega (arith, c.args.draws.from_one);
-      in_range = omega (arith, few, len);
-    }
-
-pub returns-clause-rows : goal.returns-clause-rows
-returns-clause-rows c =
-    c.from_vec.ensures ∙ whole_list c.as_slice-locals.result.now c.args.rows.now c.args.draws.device c.args.draws.next _ _ _ _ _ _ c.as_slice.ensures.value c.as_slice-2.ensures.value c.in_ok-drawing.ensures c.in_ok-merged.ensures c.in_ok-new.ensures c.in_ok-append.ensures.items ∙ ap (λ (l : List EntityRow). merged_rows l c.args.rows.now c.args.draws.device c.args.draws.next) c.as_slice-locals.ensures
-
-pub returns-clause-offline_stay : goal.returns-clause-offline_stay
-returns-clause-offline_stay c =
-    let all = c.from_vec.ensures ∙ whole_list c.as_slice-locals.result.now c.args.rows.now c.args.draws.device c.args.draws.next _ _ _ _ _ _ c.as_slice.ensures.value c.as_slice-2.ensures.value c.in_ok-drawing.ensures c.in_ok-merged.ensures c.in_ok-new.ensures c.in_ok-append.ensures.items ∙ ap (λ (l : List EntityRow). merged_rows l c.args.rows.now c.args.draws.device c.args.draws.next) c.as_slice-locals.ensures in
-    subst (λ (l : List EntityRow). OfflineStay c.args.list.now.rows c.args.rows.now l) (sym all) (offline_rows_stay c.args.list.now.rows c.args.rows.now c.args.draws.device c.args.draws.next)
-
-pub returns-clause-newer_stay : goal.returns-clause-newer_stay
-returns-clause-newer_stay c =
-    let all = c.from_vec.ensures ∙ whole_list c.as_slice-locals.result.now c.args.rows.now c.args.draws.device c.args.draws.next _ _ _ _ _ _ c.as_slice.ensures.value c.as_slice-2.ensures.value c.in_ok-drawing.ensures c.in_ok-merged.ensures c.in_ok-new.ensures c.in_ok-append.ensures.items ∙ ap (λ (l : List EntityRow). merged_rows l c.args.rows.now c.args.draws.device c.args.draws.next) c.as_slice-locals.ensures in
-    subst (λ (l : List EntityRow). NewerStay c.args.list.now.rows c.args.rows.now l) (sym all) (newer_rows_stay c.args.list.now.rows c.args.rows.now c.args.draws.device c.args.draws.next)
-
-pub returns-clause-fits : goal.returns-clause-fits
-returns-clause-fits c =
-    let all = whole_list c.as_slice-locals.result.now c.args.rows.now c.args.draws.device c.args.draws.next _ _ _ _ _ _ c.as_slice.ensures.value c.as_slice-2.ensures.value c.in_ok-drawing.ensures c.in_ok-merged.ensures c.in_ok-new.ensures c.in_ok-append.ensures.items ∙ ap (λ (l : List EntityRow). merged_rows l c.args.rows.now c.args.draws.device c.args.draws.next) c.as_slice-locals.ensures in
-    let count : c.len-count.result ≡ length (merged_rows c.args.list.now.rows c.args.rows.now c.args.draws.device c.args.draws.next) = c.len-count.ensures ∙ c.append.new.self.ok.0 ∙ ap length all in
-    subst (λ n. n ≤ row_limit) count c.if-count-gt-ROW_LIMIT.false
+pub returns : goal.returns
+returns c =
+    let list = c.args.list.now in
+    let items = c.in_ok-drawing.drawing.items in
+    let is = c.in_ok-all.ensures
+    ∙ ap (λ (l : List EntityRow). merged_rows l c.args.rows.now c.args.draws) c.as_slice-locals.ensures.rows in
+    let drawn = c.in_ok-drawing.ensures
+    ∙ ap (λ (l : List EntityRow). drawing_rows l c.args.rows.now) c.as_slice-locals.ensures.rows in
+    let len : c.len.result ≡ length items = c.len.ensures ∙ c.in_ok-drawing.drawing.ok.0 in
+    let count = len ∙ sym (length-map items (λ r. r.now)) ∙ ap length drawn in
+    let after = sym (c.in_ok-after.ensures ∙ ap (with_rows list) c.from_items.ensures) in
+    let draws = sym c.after.ensures in
+    merged_gives list c.args.rows.now c.args.draws c.in_ok-all.all.items c.in_ok-all-2.all c.len.result is
+    c.in_ok-all-2.ensures count
+    ∙ (λ k. Ok (after k, draws k))

@@ -3,10 +3,10 @@ use Rattle.std.proofs.lemmas.List.{append-nil, map-append}
 use Rattle.entity_lists.specs.declared.entities.EntityRow.{EntityRow}
 use Rattle.entity_lists.specs.declared.entities.ServerRow.{ServerRow}
 use Rattle.entity_lists.proofs.FirstLemmas.{if_passes}
-use Rattle.entity_merge.specs.Merging.{contents, fresh_branch, local_row, taken_row}
+use Rattle.entity_merge.specs.Merging.{branch_by, contents, local_row, taken_row}
 use Rattle.entity_merge.proofs.MergeLemmas.{drawing_step}
 use Rattle.entity_merge.proofs.merging.new_rows.Goals as goal
-use Rattle.entity_merge.proofs.merging.new_rows.Goals.{then-is_unknown+in_ok-taken+in_ok-push, else-is_unknown}
+use Rattle.entity_merge.proofs.merging.new_rows.Goals.{then-is_unknown+in_ok-taken_row+in_ok-push, else-is_unknown}
 
 pub loop-row-preserved : goal.loop-row-preserved
 loop-row-preserved c =
@@ -15,14 +15,14 @@ loop-row-preserved c =
     let x = c.row-item.result in
     let new = c.loop-row.new.items in
     let unknown : ServerRow → Bool = λ s. is_none (local_row c.args.locals.now s.id) in
-    let taken : ServerRow → EntityRow = λ s. taken_row s (fresh_branch (contents drawing) c.args.draws.device c.args.draws.next s.id) in
+    let taken : ServerRow → EntityRow = λ s. taken_row s (branch_by (contents drawing) c.args.draws s) in
     let before = filter unknown (contents (take i drawing)) in
     let step = drawing_step unknown drawing i x c.is_unknown.result c.loop-row-test.true c.row-item.is c.is_unknown.ensures in
     let joined = λ (b : Bool) (is : c.is_unknown.result ≡ b).
     sym (ap (map taken) (step ∙ ap (λ (n : Bool). before ++ if_passes n x.now) is) ∙ map-append taken before (if_passes b x.now)) in
     elim c.if-is_unknown.branch [
-      | then-is_unknown+in_ok-taken+in_ok-push w ↦
-          ap (λ (v : Vec EntityRow Global). v.items) w.new-is ∙ w.in_ok-push.ensures.items ∙ ap (λ (r : EntityRow). new ++ r ∷ []) w.in_ok-taken.ensures
+      | then-is_unknown+in_ok-taken_row+in_ok-push w ↦
+          ap (λ (v : Vec EntityRow Global). v.items) w.new-is ∙ w.in_ok-push.ensures.items ∙ ap (λ (r : EntityRow). new ++ r ∷ []) w.in_ok-taken_row.ensures
           ∙ ap (λ (l : List EntityRow). l ++ taken x.now ∷ []) c.loop-row.invariant ∙ joined true w.if-is_unknown.true
       | else-is_unknown w ↦
           ap (λ (v : Vec EntityRow Global). v.items) w.new-is ∙ c.loop-row.invariant ∙ sym (append-nil _) ∙ joined false w.if-is_unknown.false

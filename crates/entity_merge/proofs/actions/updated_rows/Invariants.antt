@@ -1,6 +1,0 @@
-use Rattle.std.proofs.Common.{◌≡◌, map, take}
-use Rattle.entity_merge.specs.Actions.{row_after}
-use Rattle.entity_merge.proofs.actions.updated_rows.Given as goal
-
-abbrev pub invariant-loop-row : goal.invariant-loop-row
-invariant-loop-row l = l.updated.items ≡ map (row_after l.action) (take l.row-index l.rows)

@@ -1,5 +1,0 @@
-use Rattle.std.proofs.Common.{◌≡◌, take}
-use Rattle.entity_merge.proofs.copies.copy_props.Given as goal
-
-abbrev pub invariant-loop-prop : goal.invariant-loop-prop
-invariant-loop-prop l = l.copy.items ≡ take l.prop-index l.props
