@@ -21,7 +21,8 @@ item_value e = option_map (λ v. words_of v.children) (child_named (codes "value
 
 -- the column that the first `value` of an itemset names
 abbrev pub itemset_value : Element → Option (List ℕ)
-itemset_value e = option_and_then (λ v. attribute_of (codes "ref") v.attributes) (child_named (codes "value") e.children)
+itemset_value e =
+    option_and_then (λ v. attribute_of (codes "ref") v.attributes) (child_named (codes "value") e.children)
 
 abbrev pub itemset_of : Element → ItemsetPart
 itemset_of e = record { nodeset = text_of_attribute (codes "nodeset") e.attributes; value = itemset_value e }
@@ -35,11 +36,16 @@ abbrev pub part_in : Node → List ControlPart
 part_in n = option_map_or (λ e. if is_label e then [] else part_of e ∷ []) (element_in n) []
 
 abbrev pub control_of : Element → Control
-control_of e = record { name = e.name; target = text_of_attribute (codes "ref") e.attributes; parts = flat_map part_in e.children }
+control_of e = record {
+  name = e.name;
+  target = text_of_attribute (codes "ref") e.attributes;
+  parts = flat_map part_in e.children;
+}
 
 -- a group's controls are those inside it
 abbrev pub controls_below : Element → List (List Control) → List Control
-controls_below e inside = if bytes_eq e.name (codes "group") then flat_map (λ controls. controls) inside else if is_label e then [] else control_of e ∷ []
+controls_below e inside = if bytes_eq e.name (codes "group") then flat_map (λ controls. controls) inside
+    else if is_label e then [] else control_of e ∷ []
 
 abbrev pub controls_in : Node → List Control
 controls_in n = gathered (List Control) [] controls_below n

@@ -1,5 +1,6 @@
 -- The children of a model (ODK XForms, "Model") by the texts of their attributes.
-use Rattle.std.specs.Prelude.{Bool, false, not, ◌&&◌, ◌||◌, if◌then◌else◌, List, [], ◌∷◌, ◌++◌, codes, Option, Some, None}
+use Rattle.std.specs.Prelude.{Bool, false, not, ◌&&◌, ◌||◌, if◌then◌else◌, List, [], ◌∷◌, ◌++◌, codes, Option, Some}
+use Rattle.std.specs.Prelude.{None}
 use Rattle.std.specs.List.{flat_map}
 use Rattle.std.specs.Option.{option_map_or}
 use Rattle.std.specs.Str.{bytes_eq}
@@ -35,10 +36,12 @@ abbrev pub cells_in : Node → List Cell
 cells_in n = option_map_or cell_of (element_in n) []
 
 abbrev pub row_in : Node → List (List Cell)
-row_in n = option_map_or (λ e. if bytes_eq e.name (codes "item") then flat_map cells_in e.children ∷ [] else []) (element_in n) []
+row_in n = option_map_or (λ e. if bytes_eq e.name (codes "item") then flat_map cells_in e.children ∷ [] else [])
+    (element_in n) []
 
 abbrev pub rows_in : Node → List (List Cell)
-rows_in n = option_map_or (λ e. if bytes_eq e.name (codes "root") then flat_map row_in e.children else []) (element_in n) []
+rows_in n =
+    option_map_or (λ e. if bytes_eq e.name (codes "root") then flat_map row_in e.children else []) (element_in n) []
 
 -- the attribute is asked for only where the instance has no child elements
 abbrev pub source_of : List Attribute → TableContent
@@ -49,10 +52,15 @@ content_of e = if has_elements e.children then Rows (flat_map rows_in e.children
 
 -- an instance without an `id` can't be named, and is left out
 abbrev pub table_part : Element → List ModelPart
-table_part e = option_map_or (λ id. part.Table (record { id = id; content = content_of e }) ∷ []) (attribute_of (codes "id") e.attributes) []
+table_part e = option_map_or (λ id. part.Table (record { id = id; content = content_of e }) ∷ [])
+    (attribute_of (codes "id") e.attributes) []
 
 abbrev pub setvalue_of : List Attribute → SetValue
-setvalue_of a = record { target = attribute_of (codes "ref") a; event = attribute_of (codes "event") a; value = attribute_of (codes "value") a }
+setvalue_of a = record {
+  target = attribute_of (codes "ref") a;
+  event = attribute_of (codes "event") a;
+  value = attribute_of (codes "value") a;
+}
 
 abbrev pub is_instance : Element → Bool
 is_instance e = bytes_eq e.name (codes "instance")
@@ -61,7 +69,8 @@ abbrev pub model_part : Element → List ModelPart
 model_part e =
     if is_instance e then table_part e else
     if bytes_eq e.name (codes "bind") then part.Bind (bind_of e.attributes) ∷ [] else
-    if bytes_eq e.name (codes "submission") then part.Submission (attribute_of (codes "auto-send") e.attributes) ∷ [] else
+    if bytes_eq e.name (codes "submission") then part.Submission (attribute_of (codes "auto-send") e.attributes) ∷ []
+    else
     if bytes_eq e.name (codes "setvalue") then part.SetValue (setvalue_of e.attributes) ∷ [] else
     if bytes_eq e.name (codes "itext") then [] else part.Other e.name ∷ []
 
@@ -75,7 +84,8 @@ has_instance has_primary (Some e) = has_primary || is_instance e
 -- the parts behind those among which the primary instance was, or was not
 abbrev pub parts_behind : Bool → List Node → List ModelPart
 parts_behind has_primary [] = []
-parts_behind has_primary (n ∷ ns) = option_map_or (first_or_part has_primary) (element_in n) [] ++ parts_behind (has_instance has_primary (element_in n)) ns
+parts_behind has_primary (n ∷ ns) = option_map_or (first_or_part has_primary) (element_in n) []
+    ++ parts_behind (has_instance has_primary (element_in n)) ns
 
 abbrev pub model_of : List Node → List ModelPart
 model_of nodes = parts_behind false nodes

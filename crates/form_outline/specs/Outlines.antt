@@ -1,5 +1,6 @@
 -- Where in a document the parts of a form stand (ODK XForms, "Form Document").
-use Rattle.std.specs.Prelude.{◌≡◌, ℕ, Bool, false, ◌||◌, List, [], ◌∷◌, codes, Option, Some, None, Result, Ok, Err, find}
+use Rattle.std.specs.Prelude.{◌≡◌, ℕ, Bool, false, ◌||◌, List, [], ◌∷◌, codes, Option, Some, None, Result, Ok, Err}
+use Rattle.std.specs.Prelude.{find}
 use Rattle.std.specs.Option.{option_map_or}
 use Rattle.std.specs.Str.{bytes_eq}
 use Rattle.rosa_doc.specs.declared.tree.Doc.{Doc}
@@ -36,7 +37,7 @@ first_of (x ∷ xs) = Some x
 abbrev pub first_element : List Node → Option Element
 first_element nodes = first_of (elements nodes)
 
--- The model is that of the head, and the primary instance is the first child element of the model's first instance.
+-- The model is that of the head; of its first instance the first element inside is the primary instance.
 unfoldable pub outline_of : Element → Option Outline
 outline_of document = do
   head ← child_named (codes "head") document.children

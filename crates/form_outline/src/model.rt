@@ -1,6 +1,8 @@
 ghost use Rattle.std.specs.Prelude.{◌≡◌, ◌++◌, [], ◌∷◌, IfOk, OnOk, codes};
 ghost use Rattle.std.specs.List.{flat_map};
-ghost use Rattle.form_outline.specs.Models.{bind_of, cell_of, cells_in, row_in, rows_in, source_of, content_of, table_part, setvalue_of, is_instance, model_part, first_or_part, parts_behind, model_of};
+ghost use Rattle.form_outline.specs.Models.{bind_of, cell_of, cells_in, row_in, rows_in, source_of, content_of};
+ghost use Rattle.form_outline.specs.Models.{table_part, setvalue_of, is_instance, model_part, first_or_part};
+ghost use Rattle.form_outline.specs.Models.{parts_behind, model_of};
 
 use crate::nodes::{
     attribute, attribute_of, attribute_or_empty, element_in, has_elements, words_of,

@@ -1,6 +1,7 @@
 ghost use Rattle.std.specs.Prelude.{◌≡◌, IfOk, string_bytes};
 ghost use Rattle.std.specs.Option.{option_copied};
-ghost use Rattle.form_outline.specs.Nodes.{element_in, child_named, has_elements, words_of, attribute_of, text_of_attribute};
+ghost use Rattle.form_outline.specs.Nodes.{element_in, child_named, has_elements, words_of, attribute_of};
+ghost use Rattle.form_outline.specs.Nodes.{text_of_attribute};
 
 use field_text::{NoMemory, Text};
 use rosa_doc::{Attribute, Element, Node};

@@ -1,6 +1,8 @@
 ghost use Rattle.std.specs.Prelude.{◌≡◌, ◌++◌, [], ◌∷◌, IfOk, OnOk, codes};
 ghost use Rattle.std.specs.List.{flat_map};
-ghost use Rattle.form_outline.specs.Primary.{path_below, path_of_attribute, initial_of, field_at, parts_of, attribute_field, attribute_fields, label_in, entity_fields, entity_part, meta_part, meta_parts, is_meta, primary_part, primary_of};
+ghost use Rattle.form_outline.specs.Primary.{path_below, path_of_attribute, initial_of, field_at, parts_of};
+ghost use Rattle.form_outline.specs.Primary.{attribute_field, attribute_fields, label_in, entity_fields, entity_part};
+ghost use Rattle.form_outline.specs.Primary.{meta_part, meta_parts, is_meta, primary_part, primary_of};
 
 use crate::nodes::{attribute, attribute_of, element_in, has_elements, words_of};
 use crate::{EntityPart, PrimaryField, PrimaryPart};

@@ -1,7 +1,8 @@
 ghost use Rattle.std.specs.Prelude.{◌≡◌, IfOk, IfErr};
 ghost use Rattle.std.specs.Option.{option_copied};
 ghost use Rattle.form_outline.specs.declared.reading.OutlineFault.TheVariants.{NoMemory};
-ghost use Rattle.form_outline.specs.Outlines.{Gives, Outlines, Refuses, has_body_first, first_element, outline_of, is_body, is_head_or_body};
+ghost use Rattle.form_outline.specs.Outlines.{Gives, Outlines, Refuses, has_body_first, first_element, outline_of};
+ghost use Rattle.form_outline.specs.Outlines.{is_body, is_head_or_body};
 ghost use Rattle.form_outline.specs.Nodes.{child_named};
 ghost use Rattle.form_outline.specs.Names.{IsNamed};
 

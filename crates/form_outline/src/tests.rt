@@ -3,8 +3,8 @@ use rosa_doc::DocRefused;
 use std::alloc::Global;
 use std::test::Fail;
 
-static FORM: &str =
-    "<h><head><model><instance><d id='f' version='2'><a>x</a></d></instance><bind nodeset='/d/a'/></model></head><body><input ref='/d/a'/></body></h>";
+static FORM: &str = "<h><head><model><instance><d id='f' version='2'><a>x</a></d></instance>\
+        <bind nodeset='/d/a'/></model></head><body><input ref='/d/a'/></body></h>";
 
 fn outline_of(alloc: Global, text: &str) -> Result<Outline, Fail> {
     Ok(read_outline(alloc, text.as_bytes())?)
