@@ -3,8 +3,6 @@
 
 mod held;
 mod locks;
-#[cfg(test)]
-mod tests;
 
 pub use held::Held;
 pub use locks::Locks;

@@ -9,8 +9,6 @@ mod printed;
 mod refusals;
 mod rows;
 mod settings;
-#[cfg(test)]
-mod tests;
 mod word;
 
 pub use line::{Line, Shape, read_line};

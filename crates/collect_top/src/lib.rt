@@ -5,8 +5,6 @@ mod log;
 mod output;
 mod run;
 mod stop;
-#[cfg(test)]
-mod tests;
 mod top;
 mod words;
 

@@ -7,8 +7,6 @@ mod device;
 mod fault;
 mod laws;
 mod replay;
-#[cfg(test)]
-mod tests;
 
 pub use caller::DeviceCaller;
 pub use device::Device;

@@ -8,8 +8,6 @@ mod journal;
 mod laws;
 mod opening;
 mod reading;
-#[cfg(test)]
-mod tests;
 
 pub use fault::{AppendFault, OpenFault};
 pub use journal::Journal;

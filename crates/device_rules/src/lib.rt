@@ -14,8 +14,6 @@ mod prepared;
 mod refused;
 mod state;
 mod step;
-#[cfg(test)]
-mod tests;
 mod told;
 mod trail;
 mod update_mode;

@@ -8,8 +8,6 @@ mod failing;
 mod file;
 mod memory;
 mod opener;
-#[cfg(test)]
-mod tests;
 
 pub use calls::Call;
 pub use disk::Disk;

@@ -6,8 +6,6 @@ mod entities;
 mod entity_list;
 mod lists;
 mod server_rows;
-#[cfg(test)]
-mod tests;
 mod versions;
 
 pub use entities::{EntityRow, Prop, ServerRow};

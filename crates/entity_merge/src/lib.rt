@@ -5,8 +5,6 @@ mod actions;
 mod branches;
 mod laws;
 mod merging;
-#[cfg(test)]
-mod tests;
 
 pub use actions::{Action, ActionRefused, apply_action};
 pub use laws::{

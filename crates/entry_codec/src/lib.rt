@@ -6,8 +6,6 @@ mod fault;
 mod kind;
 mod laws;
 mod read;
-#[cfg(test)]
-mod tests;
 mod write;
 
 pub use fault::EntryRefused;

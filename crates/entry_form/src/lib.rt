@@ -4,8 +4,6 @@
 mod command;
 mod entry;
 mod hand;
-#[cfg(test)]
-mod tests;
 
 pub use command::{Base, Command, How, Outcome};
 pub use entry::{Entry, Opening};

@@ -8,8 +8,6 @@ mod offering;
 mod operators;
 mod pieces;
 mod rows;
-#[cfg(test)]
-mod tests;
 mod value;
 
 pub use digits::is_whole;

@@ -3,8 +3,6 @@
 
 mod hashes;
 mod ids;
-#[cfg(test)]
-mod tests;
 
 pub use hashes::{hash_matches, hash_text, is_hash, same_hash};
 pub use ids::{Draws, Id, draw};

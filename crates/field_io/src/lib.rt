@@ -14,8 +14,6 @@ mod replies;
 mod sink;
 mod source;
 mod tcp;
-#[cfg(test)]
-mod tests;
 
 pub use calm::{CalmDialer, CalmSink, CalmSource};
 pub use clock::{Clock, FixedClock, SystemClock};

@@ -5,8 +5,6 @@ mod blob;
 mod decimal;
 mod mode;
 mod tables;
-#[cfg(test)]
-mod tests;
 mod text;
 pub mod xml;
 

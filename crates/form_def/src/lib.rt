@@ -9,8 +9,6 @@ mod order;
 mod parts;
 mod paths;
 mod reads;
-#[cfg(test)]
-mod tests;
 
 pub use expr::{Expr, Func, Op};
 pub use field::{Cell, Choices, EntityDef, Field, InnerTable, Kind, OuterTable};

@@ -11,8 +11,6 @@ mod progress;
 mod reading;
 mod rows;
 mod syntax;
-#[cfg(test)]
-mod tests;
 mod words;
 
 pub use laws::room_is_nesting;

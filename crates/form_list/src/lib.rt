@@ -5,8 +5,6 @@ mod entries;
 mod laws;
 mod reading;
 mod refusal;
-#[cfg(test)]
-mod tests;
 mod writing;
 
 pub use entries::{Listed, MediaFile};

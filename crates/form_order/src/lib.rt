@@ -5,8 +5,6 @@ mod fault;
 mod order;
 mod reach;
 mod rows;
-#[cfg(test)]
-mod tests;
 mod walk;
 
 pub use fault::OrderFault;

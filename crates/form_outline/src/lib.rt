@@ -7,8 +7,6 @@ mod nodes;
 mod outline;
 mod primary;
 mod reading;
-#[cfg(test)]
-mod tests;
 
 pub use outline::{
     Bind, Control, ControlPart, EntityPart, ItemsetPart, ModelPart, Outline, PrimaryField,

@@ -15,8 +15,6 @@ mod refusal;
 mod scope;
 mod slots;
 mod tables;
-#[cfg(test)]
-mod tests;
 
 pub use form::read_form;
 pub use laws::{form_or_refusal, one_form};

@@ -3,8 +3,6 @@
 
 mod records;
 mod store;
-#[cfg(test)]
-mod tests;
 
 pub use records::{Check, FormRec};
 pub use store::{FORM_LIMIT, FormStore};

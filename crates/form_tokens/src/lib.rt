@@ -3,8 +3,6 @@
 
 mod cut;
 mod front;
-#[cfg(test)]
-mod tests;
 mod token;
 
 pub use cut::token_at;

@@ -8,8 +8,6 @@ pub mod fields;
 mod framing;
 mod head;
 mod reply;
-#[cfg(test)]
-mod tests;
 
 pub use body::MOST_KEPT;
 pub use framing::{Framing, read_length, stated_framing};

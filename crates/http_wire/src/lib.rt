@@ -5,8 +5,6 @@ mod address;
 mod carry;
 mod got;
 mod request;
-#[cfg(test)]
-mod tests;
 
 pub use address::{Address, read_address, read_base};
 pub use got::{Got, exchange};

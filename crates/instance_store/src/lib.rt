@@ -3,8 +3,6 @@
 
 mod records;
 mod store;
-#[cfg(test)]
-mod tests;
 
 pub use records::{InstanceRec, Status};
 pub use store::{INSTANCE_LIMIT, InstanceStore};

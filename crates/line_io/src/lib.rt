@@ -4,8 +4,6 @@
 mod output;
 mod reader;
 mod stop;
-#[cfg(test)]
-mod tests;
 
 pub use output::put_all;
 pub use reader::LineReader;

@@ -7,8 +7,6 @@ mod laws;
 mod marks;
 mod settling;
 mod sheet;
-#[cfg(test)]
-mod tests;
 
 pub use answers::{AnswerRefused, fill};
 pub use faults::{Cause, Fault, first_fault};

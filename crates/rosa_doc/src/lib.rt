@@ -7,8 +7,6 @@ mod progress;
 mod reader;
 mod reading;
 mod refusal;
-#[cfg(test)]
-mod tests;
 mod tree;
 mod writer;
 

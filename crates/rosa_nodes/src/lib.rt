@@ -2,8 +2,6 @@
 #![tactic(auto)]
 
 mod nodes;
-#[cfg(test)]
-mod tests;
 mod trimming;
 
 pub use nodes::{

@@ -7,8 +7,6 @@ mod names;
 mod piece;
 mod skipped;
 mod tags;
-#[cfg(test)]
-mod tests;
 mod unread;
 mod values;
 

@@ -3,8 +3,6 @@
 
 mod keys;
 mod store;
-#[cfg(test)]
-mod tests;
 
 pub use keys::{Key, KeyBase};
 pub use store::{Savepoint, Savepoints};

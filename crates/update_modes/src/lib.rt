@@ -3,7 +3,5 @@
 
 mod places;
 mod plans;
-#[cfg(test)]
-mod tests;
 
 pub use plans::{gone, plan};

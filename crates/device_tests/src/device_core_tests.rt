@@ -1,0 +1,205 @@
+ghost use Rattle.std.specs.Prelude.{IfOk};
+ghost use Rattle.device_core.specs.View.{IsReady};
+
+use device_core::*;
+use device_rules::{Answer, Caller, Query, Refused, Settings, SubmitFault, Told, is_opening};
+use disk_model::{FusedDisk, MemDisk};
+use entry_form::{Command, Hand, Opening};
+use field_text::{Mode, NoMemory, Text};
+use std::alloc::Global;
+use std::test::Fail;
+
+fn own_opening(alloc: Global) -> Result<Opening, Fail> {
+    let Ok(server) = Text::from_bytes(alloc, b"http://localhost:8080") else {
+        return Err("no memory".into());
+    };
+    Ok(Opening { device: 1, server })
+}
+
+fn disk_of(alloc: Global, bytes: &[u8]) -> Result<MemDisk, NoMemory> {
+    MemDisk::make(alloc, Vec::from_slice(alloc, bytes)?)
+}
+
+// An opening, auto-send on, mode exact.
+const IMAGE: &[u8] =
+    b"ODKDEV01\xA7\x23\0\0\0\x01\0\x01\0\0\0\0\0\0\0\x15\0\0\0http://localhost:8080\
+        \xA7\x03\0\0\0\x02\0\x01\xA7\x03\0\0\0\x03\0\x02\0";
+
+fn opened(alloc: Global, disk: MemDisk) -> Result<Device<MemDisk>, Fail>
+    ensures { IfOk result IsReady }
+{
+    let opening = own_opening(alloc)?;
+    if !is_opening(&opening) {
+        return Err("no opening".into());
+    }
+    match Device::open_device(alloc, disk, opening) {
+        Ok(device) => Ok(device),
+        Err(_) => Err("not opened".into()),
+    }
+}
+
+#[test]
+fn commands_last(rt: HostRuntime) -> Result<(), Fail> {
+    let alloc = rt.alloc();
+    let mut device = opened(alloc, disk_of(alloc, b"")?)?;
+    let on = device.submit(alloc, Hand::Script, Command::AutoSend(true));
+    let told = Told {
+        position: 2,
+        answer: Answer::Done,
+    };
+    assert_eq!(rt; on, Ok(told));
+    let exact = device.submit(alloc, Hand::Script, Command::UpdateMode(Mode::Exact));
+    assert!(rt; exact.is_ok());
+    let tick = device.submit(alloc, Hand::Script, Command::Tick);
+    let why = Refused::NotBuilt;
+    assert_eq!(rt; tick, Err(SubmitFault::Refused { position: 3, why }));
+    let settings = Settings {
+        mode: Mode::Exact,
+        auto_send: true,
+    };
+    let told = Told {
+        position: 3,
+        answer: Answer::Settings(settings),
+    };
+    assert_eq!(rt; device.ask(alloc, Hand::Sender, &Query::Settings), Ok(told));
+    assert_eq!(rt; device.position(), 3);
+    assert_eq!(rt; device.fault_count(), 0);
+    let (disk, trail) = device.into_parts(alloc);
+    assert_eq!(rt; disk.bytes(), IMAGE);
+    assert_eq!(rt; trail.entries.len(), 3);
+    an_image_reads_as_one_thing();
+    Ok(())
+}
+
+// The position told, and 10 more for a refusal.
+fn position_of(answer: Result<Told, SubmitFault>) -> u64 {
+    match answer {
+        Ok(told) => told.position,
+        Err(SubmitFault::Refused { position, .. }) => position.saturating_add(10),
+        Err(SubmitFault::Full { .. } | SubmitFault::DiskFault | SubmitFault::Failed { .. }) => 99,
+    }
+}
+
+// A command, a refused one and a query of any caller.
+fn play<K: Caller>(alloc: Global, caller: &mut K) -> [u64; 3] {
+    [
+        position_of(caller.call(alloc, Command::AutoSend(true))),
+        position_of(caller.call(alloc, Command::Tick)),
+        position_of(caller.look(alloc, &Query::Settings)),
+    ]
+}
+
+#[test]
+fn a_hand_calls_a_device(rt: HostRuntime) -> Result<(), Fail> {
+    let alloc = rt.alloc();
+    let mut caller = DeviceCaller::new(opened(alloc, disk_of(alloc, b"")?)?);
+    assert_eq!(rt; play(alloc, &mut caller), [2, 12, 2]);
+    assert_eq!(rt; caller.hand(), Hand::Script);
+    assert_eq!(rt; caller.due(), 0);
+    assert!(rt; caller.closing());
+    assert_eq!(rt; caller.into_device().position(), 2);
+    Ok(())
+}
+
+// Images, and how many entries they stand for or why they aren't opened.
+static READINGS: [(&[u8], Result<u64, OpenFault>); 8] = [
+    (b"any bytes", Ok(0)),
+    (IMAGE, Ok(3)),
+    (b"ten bytes!", Err(OpenFault::BadJournal { at: 0 })),
+    (
+        b"ODKDEV01\xA7\x03\0\0\0\x02\0\x02\0",
+        Err(OpenFault::BadEntry { position: 1 }),
+    ),
+    (
+        b"ODKDEV01\xA7\x04\0\0\0\x02\0\x01\x01\0",
+        Err(OpenFault::BadEntry { position: 1 }),
+    ),
+    (
+        b"ODKDEV01\xA7\x02\0\0\0\x14\0\0",
+        Err(OpenFault::IllegalEntry { position: 1 }),
+    ),
+    (
+        b"ODKDEV01\xA7\x03\0\0\0\x02\0\x01\xA7\x02\0\0\0\x14\0\0",
+        Err(OpenFault::IllegalEntry { position: 2 }),
+    ),
+    (
+        b"ODKDEV01\xA7\x02\0\0\0\x14\0\xA7\x01\0\0\0\x15\0",
+        Err(OpenFault::BadEntry { position: 2 }),
+    ),
+];
+
+// The number of entries that opening finds.
+fn found_in(alloc: Global, disk: MemDisk) -> Result<Result<u64, OpenFault>, Fail> {
+    let opening = own_opening(alloc)?;
+    if !is_opening(&opening) {
+        return Err("no opening".into());
+    }
+    match Device::open_device(alloc, disk, opening) {
+        Ok(device) => Ok(Ok(device.position().saturating_sub(1))),
+        Err((_, fault)) => Ok(Err(fault)),
+    }
+}
+
+#[test]
+fn images_are_read(rt: HostRuntime) -> Result<(), Fail> {
+    let alloc = rt.alloc();
+    for (image, want) in &READINGS {
+        assert_eq!(rt; found_in(alloc, disk_of(alloc, image)?)?, *want);
+    }
+    Ok(())
+}
+
+// The last position that was told over a disk that stops at call k, and the disk below.
+fn stop_at(alloc: Global, k: u64) -> Result<(u64, MemDisk), Fail> {
+    let opening = own_opening(alloc)?;
+    if !is_opening(&opening) {
+        return Err("no opening".into());
+    }
+    let disk = FusedDisk::make(disk_of(alloc, b"")?, k);
+    let mut device = match Device::open_device(alloc, disk, opening) {
+        Ok(device) => device,
+        Err((disk, _)) => return Ok((0, disk.into_disk())),
+    };
+    let mut last = 1;
+    for on in [true, false] {
+        if let Ok(told) = device.submit(alloc, Hand::Script, Command::AutoSend(on)) {
+            last = told.position;
+        }
+    }
+    let (disk, _trail) = device.into_parts(alloc);
+    Ok((last, disk.into_disk()))
+}
+
+// The call at which the disk stops, the last position told, and how many entries are found. Five calls make the
+// journal, and each entry takes four.
+static STOPS: [(u64, u64, u64); 18] = [
+    (1, 0, 0),
+    (2, 0, 0),
+    (3, 0, 0),
+    (4, 0, 0),
+    (5, 0, 0),
+    (6, 0, 0),
+    (7, 0, 0),
+    (8, 0, 0),
+    (9, 0, 1),
+    (10, 1, 1),
+    (11, 1, 1),
+    (12, 1, 1),
+    (13, 1, 2),
+    (14, 2, 2),
+    (15, 2, 2),
+    (16, 2, 2),
+    (17, 2, 3),
+    (18, 3, 3),
+];
+
+#[test]
+fn what_was_told_is_found_after_every_stop(rt: HostRuntime) -> Result<(), Fail> {
+    let alloc = rt.alloc();
+    for (k, told, want) in &STOPS {
+        let (last, disk) = stop_at(alloc, *k)?;
+        assert_eq!(rt; last, *told);
+        assert_eq!(rt; found_in(alloc, disk)?, Ok(*want));
+    }
+    Ok(())
+}

@@ -1,0 +1,8 @@
+//! Tests of replies and requests of HTTP and one exchange.
+//! Each public function is called once, and what no contract says is told by examples.
+#![tactic(auto)]
+
+#[cfg(test)]
+mod http_reply_tests;
+#[cfg(test)]
+mod http_wire_tests;
