@@ -18,7 +18,7 @@ use Rattle.form_outline.specs.declared.outline.PrimaryField.{PrimaryField}
 use Rattle.form_outline.specs.declared.outline.PrimaryPart.TheVariants.{Meta, Entity}
 use Rattle.form_outline.specs.declared.outline.Outline.{Outline}
 use Rattle.form_outline.specs.declared.reading.OutlineFault.{OutlineFault}
-use Rattle.form_outline.specs.Nodes.{element_in, element_of_layer, elements, child_named, attribute_of}
+use Rattle.rosa_nodes.specs.Nodes.{element_in, element_of_layer, elements, child_named, attribute_of}
 use Rattle.form_outline.specs.Names.{field_has_path, has_paths, IsNamed}
 use Rattle.form_outline.specs.Outlines.{◌>>=◌, first_of, first_element, outline_of, Gives}
 use Rattle.form_outline.specs.Primary.{path_below, field_at, parts_of, attribute_field, attribute_fields, label_in, entity_fields, entity_part, is_meta, meta_part, meta_parts, primary_part, primary_of}

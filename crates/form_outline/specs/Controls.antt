@@ -9,7 +9,7 @@ use Rattle.form_outline.specs.declared.outline.ItemsetPart.{ItemsetPart}
 use Rattle.form_outline.specs.declared.outline.ControlPart.{ControlPart}
 use Rattle.form_outline.specs.declared.outline.ControlPart.TheVariants.{Item, Itemset, Other}
 use Rattle.form_outline.specs.declared.outline.Control.{Control}
-use Rattle.form_outline.specs.Nodes.{words_of, element_in, child_named, attribute_of, text_of_attribute}
+use Rattle.rosa_nodes.specs.Nodes.{words_of, element_in, child_named, attribute_of, text_of_attribute}
 use Rattle.form_outline.specs.Trees.{gathered}
 
 abbrev pub is_label : Element → Bool

@@ -1,4 +1,3 @@
-pub mod Nodes
 pub mod Trees
 pub mod Primary
 pub mod Models

@@ -14,7 +14,7 @@ use Rattle.form_outline.specs.declared.outline.TableContent.TheVariants.{Rows, S
 use Rattle.form_outline.specs.declared.outline.SetValue.{SetValue}
 use Rattle.form_outline.specs.declared.outline.ModelPart.{ModelPart}
 use Rattle.form_outline.specs.declared.outline.ModelPart.TheVariants as part
-use Rattle.form_outline.specs.Nodes.{words_of, has_elements, element_in, attribute_of, text_of_attribute}
+use Rattle.rosa_nodes.specs.Nodes.{words_of, has_elements, element_in, attribute_of, text_of_attribute}
 
 abbrev pub bind_of : List Attribute → Bind
 bind_of a = record {

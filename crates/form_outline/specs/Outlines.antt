@@ -10,7 +10,7 @@ use Rattle.rosa_doc.specs.Refusals.{IsDoc, Refuses as RefusesDoc}
 use Rattle.form_outline.specs.declared.outline.Outline.{Outline}
 use Rattle.form_outline.specs.declared.reading.OutlineFault.{OutlineFault}
 use Rattle.form_outline.specs.declared.reading.OutlineFault.TheVariants as fault
-use Rattle.form_outline.specs.Nodes.{elements, child_named, text_of_attribute}
+use Rattle.rosa_nodes.specs.Nodes.{elements, child_named, text_of_attribute}
 use Rattle.form_outline.specs.Primary.{primary_of}
 use Rattle.form_outline.specs.Models.{model_of}
 use Rattle.form_outline.specs.Controls.{controls_of}

@@ -11,7 +11,7 @@ use Rattle.form_outline.specs.declared.outline.PrimaryField.{PrimaryField}
 use Rattle.form_outline.specs.declared.outline.EntityPart.{EntityPart}
 use Rattle.form_outline.specs.declared.outline.PrimaryPart.{PrimaryPart}
 use Rattle.form_outline.specs.declared.outline.PrimaryPart.TheVariants.{Field, Meta, Entity}
-use Rattle.form_outline.specs.Nodes.{words_of, has_elements, element_in, attribute_of}
+use Rattle.rosa_nodes.specs.Nodes.{words_of, has_elements, element_in, attribute_of}
 use Rattle.form_outline.specs.Trees.{gathered}
 
 -- the path of a child

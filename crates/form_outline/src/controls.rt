@@ -3,10 +3,10 @@ ghost use Rattle.std.specs.List.{flat_map};
 ghost use Rattle.form_outline.specs.Controls.{is_label, item_value, itemset_value, itemset_of, part_of, part_in};
 ghost use Rattle.form_outline.specs.Controls.{control_of, controls_in, controls_of};
 
-use crate::nodes::{attribute, attribute_or_empty, child_named, element_in, words_of};
 use crate::{Control, ControlPart, ItemsetPart};
 use field_text::{Items, NoMemory, Text};
 use rosa_doc::{Element, Node};
+use rosa_nodes::{attribute, attribute_or_empty, child_named, element_in, words_of};
 use std::alloc::Global;
 
 fn is_label(element: &Element) -> bool

@@ -3,7 +3,6 @@
 
 mod controls;
 mod model;
-mod nodes;
 mod outline;
 mod primary;
 mod reading;

@@ -4,13 +4,11 @@ ghost use Rattle.form_outline.specs.Models.{bind_of, cell_of, cells_in, row_in, 
 ghost use Rattle.form_outline.specs.Models.{table_part, setvalue_of, is_instance, model_part, first_or_part};
 ghost use Rattle.form_outline.specs.Models.{parts_behind, model_of};
 
-use crate::nodes::{
-    attribute, attribute_of, attribute_or_empty, element_in, has_elements, words_of,
-};
 use crate::{Bind, ModelPart, SetValue, Table, TableContent};
 use field_text::{Items, NoMemory};
 use form_def::Cell;
 use rosa_doc::{Attribute, Element, Node};
+use rosa_nodes::{attribute, attribute_of, attribute_or_empty, element_in, has_elements, words_of};
 use std::alloc::Global;
 
 fn bind_of(alloc: Global, attributes: &[Attribute]) -> Result<Bind, NoMemory>

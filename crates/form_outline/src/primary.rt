@@ -4,10 +4,10 @@ ghost use Rattle.form_outline.specs.Primary.{path_below, path_of_attribute, init
 ghost use Rattle.form_outline.specs.Primary.{attribute_field, attribute_fields, label_in, entity_fields, entity_part};
 ghost use Rattle.form_outline.specs.Primary.{meta_part, meta_parts, is_meta, primary_part, primary_of};
 
-use crate::nodes::{attribute, attribute_of, element_in, has_elements, words_of};
 use crate::{EntityPart, PrimaryField, PrimaryPart};
 use field_text::{Items, NoMemory, Text};
 use rosa_doc::{Attribute, Element, Node};
+use rosa_nodes::{attribute, attribute_of, element_in, has_elements, words_of};
 use std::alloc::Global;
 
 /// The path of a child.

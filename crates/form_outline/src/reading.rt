@@ -3,15 +3,15 @@ ghost use Rattle.std.specs.Option.{option_copied};
 ghost use Rattle.form_outline.specs.declared.reading.OutlineFault.TheVariants.{NoMemory};
 ghost use Rattle.form_outline.specs.Outlines.{Gives, Outlines, Refuses, has_body_first, first_element, outline_of};
 ghost use Rattle.form_outline.specs.Outlines.{is_body, is_head_or_body};
-ghost use Rattle.form_outline.specs.Nodes.{child_named};
+ghost use Rattle.rosa_nodes.specs.Nodes.{child_named};
 ghost use Rattle.form_outline.specs.Names.{IsNamed};
 
 use crate::Outline;
 use crate::controls::controls_of;
 use crate::model::model_of;
-use crate::nodes::{attribute_or_empty, child_named, element_in};
 use crate::primary::primary_of;
 use rosa_doc::{DocRefused, Element, Node};
+use rosa_nodes::{attribute_or_empty, child_named, element_in};
 use std::alloc::Global;
 
 /// Why bytes say nothing of a form.

@@ -24,7 +24,7 @@ use Rattle.form_outline.specs.declared.outline.ModelPart.{ModelPart}
 use Rattle.form_outline.specs.declared.outline.ModelPart.TheVariants as part
 use Rattle.form_outline.specs.declared.outline.Control.{Control}
 use Rattle.form_outline.specs.Names.{field_has_path, has_paths, IsNamed}
-use Rattle.form_outline.specs.Nodes.{element_in, elements, child_named}
+use Rattle.rosa_nodes.specs.Nodes.{element_in, elements, child_named}
 use Rattle.form_outline.specs.Models.{is_instance, first_or_part, has_instance, parts_behind, model_of}
 use Rattle.form_outline.specs.Outlines.{first_element, outline_of, Outlines}
 use Rattle.form_outline.specs.Outlines as outlines

@@ -1,7 +1,0 @@
-use Rattle.std.proofs.Common.{◌≡◌, take}
-use Rattle.std.specs.String.{string_bytes}
-use Rattle.form_outline.specs.Nodes.{words_of}
-use Rattle.form_outline.proofs.nodes.words_of.Given as goal
-
-abbrev pub invariant-loop-node : goal.invariant-loop-node
-invariant-loop-node l = string_bytes l.text ≡ words_of (take l.node-index l.nodes)
