@@ -1,7 +1,7 @@
 -- What is printed of an outline.
 use Rattle.std.specs.Prelude.{ℕ, List, [], ◌∷◌, ◌++◌, codes, Bool, true, false, Option, Some, None, if◌then◌else◌}
 use Rattle.std.specs.List.{flat_map}
-use Rattle.form_def.specs.declared.field.Cell.{Cell}
+use Rattle.case_lines.specs.Cells.{row_printed}
 use Rattle.form_outline.specs.declared.outline.PrimaryField.{PrimaryField}
 use Rattle.form_outline.specs.declared.outline.EntityPart.{EntityPart}
 use Rattle.form_outline.specs.declared.outline.PrimaryPart.{PrimaryPart}
@@ -60,20 +60,6 @@ others_printed bind = named_printed (codes "readonly") bind.readonly
 abbrev pub bind_printed : Bind → List ℕ
 bind_printed bind = codes "bind [" ++ bind.nodeset ++ codes "]" ++ named_printed (codes "type") bind.data_type
     ++ answers_printed bind ++ others_printed bind
-
-abbrev pub cell_printed : Cell → List ℕ
-cell_printed cell = cell.column ++ codes "=[" ++ cell.value ++ codes "]"
-
-abbrev pub further_cell_printed : Cell → List ℕ
-further_cell_printed cell = codes " " ++ cell_printed cell
-
--- cells with a space between two of them
-abbrev pub cells_printed : List Cell → List ℕ
-cells_printed [] = []
-cells_printed (cell ∷ cells) = cell_printed cell ++ flat_map further_cell_printed cells
-
-abbrev pub row_printed : List Cell → List ℕ
-row_printed cells = codes " (" ++ cells_printed cells ++ codes ")"
 
 abbrev pub content_printed : TableContent → List ℕ
 content_printed (content.Rows rows) = codes " rows" ++ flat_map row_printed rows

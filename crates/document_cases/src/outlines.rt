@@ -1,18 +1,17 @@
 ghost use Rattle.std.specs.Prelude.{◌≡◌, ◌++◌, IfOk, OnOk, string_bytes};
 ghost use Rattle.std.specs.List.{flat_map};
-ghost use Rattle.document_cases.specs.Outlines.{answers_printed, bind_printed, cell_printed, cells_printed};
+ghost use Rattle.document_cases.specs.Outlines.{answers_printed, bind_printed};
 ghost use Rattle.document_cases.specs.Outlines.{content_printed, control_part_printed, control_printed};
-ghost use Rattle.document_cases.specs.Outlines.{entity_printed, field_printed, further_cell_printed};
+ghost use Rattle.document_cases.specs.Outlines.{entity_printed, field_printed};
 ghost use Rattle.document_cases.specs.Outlines.{inner_field_printed, model_part_printed, named_printed};
 ghost use Rattle.document_cases.specs.Outlines.{others_printed, outline_printed, primary_part_printed};
-ghost use Rattle.document_cases.specs.Outlines.{root_printed, row_printed, setvalue_printed, table_printed};
+ghost use Rattle.document_cases.specs.Outlines.{root_printed, setvalue_printed, table_printed};
 ghost use Rattle.document_cases.specs.Outlines.{body_first_printed, text_printed};
 ghost use Rattle.document_cases.specs.Parts.{back_of, document_of, front_of, part_named, part_printed};
 
 use crate::Printer;
-use case_lines::{Prints, bytes_of, cut, print_all, push_all};
-use field_text::{Items, NoMemory, Text};
-use form_def::Cell;
+use case_lines::{Prints, RowPrinter, bytes_of, cut, print_all, push_all};
+use field_text::{NoMemory, Text};
 use form_outline::*;
 use std::alloc::{AllocError, Global};
 
@@ -104,48 +103,13 @@ fn print_bind(out: &mut String, bind: &Bind) -> Result<(), AllocError>
     print_others(out, bind)
 }
 
-fn print_cell(out: &mut String, cell: &Cell) -> Result<(), AllocError>
-    ensures { OnOk result (string_bytes out.new ≡ string_bytes out.old ++ cell_printed cell.now) }
-{
-    push_all(out, &[cell.column.as_str(), "=[", cell.value.as_str(), "]"])
-}
-
-impl Prints<Cell> for Printer {
-    ghost printed = { further_cell_printed };
-
-    fn print(out: &mut String, value: &Cell) -> Result<(), AllocError> {
-        out.push_str(" ")?;
-        print_cell(out, value)
-    }
-}
-
-fn print_cells(out: &mut String, cells: &[Cell]) -> Result<(), AllocError>
-    ensures { OnOk result (string_bytes out.new ≡ string_bytes out.old ++ cells_printed cells.now) }
-{
-    let Some((first, further)) = cells.split_first() else {
-        return Ok(());
-    };
-    print_cell(out, first)?;
-    print_all::<_, Printer>(out, further)
-}
-
-impl Prints<Items<Cell>> for Printer {
-    ghost printed = { row_printed };
-
-    fn print(out: &mut String, value: &Items<Cell>) -> Result<(), AllocError> {
-        out.push_str(" (")?;
-        print_cells(out, value.as_slice())?;
-        out.push_str(")")
-    }
-}
-
 fn print_content(out: &mut String, content: &TableContent) -> Result<(), AllocError>
     ensures { OnOk result (string_bytes out.new ≡ string_bytes out.old ++ content_printed content.now) }
 {
     match content {
         TableContent::Rows(rows) => {
             out.push_str(" rows")?;
-            print_all::<_, Printer>(out, rows.as_slice())
+            print_all::<_, RowPrinter>(out, rows.as_slice())
         }
         TableContent::Source(source) => push_all(out, &[" src=[", source.as_str(), "]"]),
         TableContent::Nothing => out.push_str(" nothing"),

@@ -6,7 +6,7 @@ use Rattle.form_def.specs.declared.expr.Expr.{Expr}
 use Rattle.form_def.specs.declared.field.Choices.{Choices}
 use Rattle.form_def.specs.declared.field.Choices.TheVariants.{Nothing, Fixed, Rows}
 use Rattle.form_def.specs.declared.field.Field.{Field}
-use Rattle.form_def.specs.declared.field.Cell.{Cell}
+use Rattle.case_lines.specs.Cells.{row_printed}
 use Rattle.form_def.specs.declared.field.InnerTable.{InnerTable}
 use Rattle.form_def.specs.declared.field.OuterTable.{OuterTable}
 use Rattle.form_def.specs.declared.field.EntityDef.{EntityDef}
@@ -56,20 +56,6 @@ opening_printed field = field.path ++ kind_name field.kind ++ initial_printed fi
 
 abbrev pub field_printed : Field → List ℕ
 field_printed field = opening_printed field ++ binds_printed field ++ choices_printed field.choices ++ codes ";"
-
-abbrev pub cell_printed : Cell → List ℕ
-cell_printed cell = cell.column ++ codes "=[" ++ cell.value ++ codes "]"
-
-abbrev pub further_cell_printed : Cell → List ℕ
-further_cell_printed cell = codes " " ++ cell_printed cell
-
--- cells with a space between two of them
-abbrev pub cells_printed : List Cell → List ℕ
-cells_printed [] = []
-cells_printed (cell ∷ cells) = cell_printed cell ++ flat_map further_cell_printed cells
-
-abbrev pub row_printed : List Cell → List ℕ
-row_printed cells = codes " (" ++ cells_printed cells ++ codes ")"
 
 abbrev pub inner_printed : InnerTable → List ℕ
 inner_printed table = codes "inner " ++ table.name ++ flat_map row_printed table.rows ++ codes ";"

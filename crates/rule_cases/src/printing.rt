@@ -2,16 +2,16 @@
 ghost use Rattle.std.specs.Prelude.{◌≡◌, ◌++◌, OnOk, string_bytes};
 ghost use Rattle.std.specs.List.{flat_map};
 ghost use Rattle.rule_cases.specs.Expressions.{argument_printed, expr_printed};
-ghost use Rattle.rule_cases.specs.Forms.{binds_printed, cell_printed, cells_printed, choices_printed};
+ghost use Rattle.rule_cases.specs.Forms.{binds_printed, choices_printed};
 ghost use Rattle.rule_cases.specs.Forms.{entity_printed, field_printed, filter_printed, form_printed};
-ghost use Rattle.rule_cases.specs.Forms.{further_cell_printed, head_printed, initial_printed, inner_printed};
+ghost use Rattle.rule_cases.specs.Forms.{head_printed, initial_printed, inner_printed};
 ghost use Rattle.rule_cases.specs.Forms.{named_printed, number_printed, opening_printed, order_printed, outer_printed};
-ghost use Rattle.rule_cases.specs.Forms.{row_printed, saveto_printed, sending_printed, value_printed};
+ghost use Rattle.rule_cases.specs.Forms.{saveto_printed, sending_printed, value_printed};
 
 use crate::words::{kind_name, name_of, sign_of};
-use case_lines::{Prints, print_all, push_all, push_number};
-use field_text::{Items, Text};
-use form_def::{Cell, Choices, EntityDef, Expr, Field, FormDef, InnerTable, OuterTable};
+use case_lines::{Prints, RowPrinter, print_all, push_all, push_number};
+use field_text::Text;
+use form_def::{Choices, EntityDef, Expr, Field, FormDef, InnerTable, OuterTable};
 use std::alloc::AllocError;
 
 /// Prints the parts of forms.
@@ -170,47 +170,12 @@ impl Prints<Field> for Printer {
     }
 }
 
-fn print_cell(out: &mut String, cell: &Cell) -> Result<(), AllocError>
-    ensures { OnOk result (string_bytes out.new ≡ string_bytes out.old ++ cell_printed cell.now) }
-{
-    push_all(out, &[cell.column.as_str(), "=[", cell.value.as_str(), "]"])
-}
-
-impl Prints<Cell> for Printer {
-    ghost printed = { further_cell_printed };
-
-    fn print(out: &mut String, value: &Cell) -> Result<(), AllocError> {
-        out.push_str(" ")?;
-        print_cell(out, value)
-    }
-}
-
-fn print_cells(out: &mut String, cells: &[Cell]) -> Result<(), AllocError>
-    ensures { OnOk result (string_bytes out.new ≡ string_bytes out.old ++ cells_printed cells.now) }
-{
-    let Some((first, further)) = cells.split_first() else {
-        return Ok(());
-    };
-    print_cell(out, first)?;
-    print_all::<_, Printer>(out, further)
-}
-
-impl Prints<Items<Cell>> for Printer {
-    ghost printed = { row_printed };
-
-    fn print(out: &mut String, value: &Items<Cell>) -> Result<(), AllocError> {
-        out.push_str(" (")?;
-        print_cells(out, value.as_slice())?;
-        out.push_str(")")
-    }
-}
-
 impl Prints<InnerTable> for Printer {
     ghost printed = { inner_printed };
 
     fn print(out: &mut String, value: &InnerTable) -> Result<(), AllocError> {
         push_all(out, &["inner ", value.name.as_str()])?;
-        print_all::<_, Printer>(out, value.rows.as_slice())?;
+        print_all::<_, RowPrinter>(out, value.rows.as_slice())?;
         out.push_str(";")
     }
 }
