@@ -3,6 +3,10 @@
 
 mod streams;
 
+ghost use Rattle.std.specs.Prelude.{◌≡◌};
+ghost use Rattle.std.specs.Process.{exit_status};
+ghost use Rattle.collect_top.specs.Stop.{status_of};
+
 use crate::streams::{Watched, hold_closed_streams};
 use collect_script::ScriptStop;
 use collect_top::{Hand1, Hands, Stop, collect_alone, put_fault};
@@ -48,7 +52,9 @@ fn explain(rt: &HostRuntime, what: &str, trouble: Option<&io::Error>) {
 }
 
 // Ends before the top call, with the line of the stop.
-fn stopped<W: io::Write>(output: &mut W, stop: Stop) -> ExitCode {
+fn stopped<W: io::Write>(output: &mut W, stop: Stop) -> ExitCode
+    ensures { exit_status result ≡ status_of stop }
+{
     let _ = put_fault(&mut StdSink::new(output), stop);
     ExitCode::from(stop.status())
 }

@@ -1,4 +1,8 @@
 // The standard streams: which are open, and what the system said of them.
+ghost use Rattle.std.specs.Prelude.{◌≡◌, None, Some};
+ghost use Rattle.std.specs.Option.{option_or};
+ghost use Rattle.std.specs.IoError.{error_kind};
+
 use std::fs::OpenOptions;
 use std::io;
 use std::io::{Read, Write};
@@ -33,14 +37,21 @@ pub struct Watched<S> {
 }
 
 impl<S> Watched<S> {
-    pub fn new(stream: S) -> Watched<S> {
+    pub fn new(stream: S) -> Watched<S>
+        ensures { result.trouble ≡ None }
+    {
         Watched {
             stream,
             trouble: None,
         }
     }
 
-    fn keep(&mut self, error: io::Error) -> io::Error {
+    // Keeps what a call failed of, unless one failed before, and gives an error of the same kind.
+    fn keep(&mut self, error: io::Error) -> io::Error
+        ensures stream { self.new.stream ≡ self.old.stream }
+        ensures first { self.new.trouble ≡ option_or self.old.trouble (Some error) }
+        ensures kind { error_kind result ≡ error_kind error }
+    {
         let again = io::Error::from(error.kind());
         if self.trouble.is_none() {
             self.trouble = Some(error);

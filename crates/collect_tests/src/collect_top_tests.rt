@@ -117,7 +117,7 @@ static CASES: [Case; 10] = [
         words: &["run"],
         script: b"dance\nshow settings\n",
         status: 0,
-        printed: b"1 not built\n1 settings mode manual autosend off\n",
+        printed: b"1 bad line\n1 settings mode manual autosend off\n",
         length: 49,
     },
     Case {

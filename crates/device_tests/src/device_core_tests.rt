@@ -2,7 +2,7 @@ ghost use Rattle.std.specs.Prelude.{IfOk};
 ghost use Rattle.device_core.specs.View.{IsReady};
 
 use device_core::*;
-use device_rules::{Answer, Caller, Query, Refused, Settings, SubmitFault, Told, is_opening};
+use device_rules::{Answer, Caller, Query, Refused, SubmitFault, Told, is_opening};
 use disk_model::{FusedDisk, MemDisk};
 use entry_form::{Command, Hand, Opening};
 use field_text::{Mode, NoMemory, Text};
@@ -43,25 +43,23 @@ fn commands_last(rt: HostRuntime) -> Result<(), Fail> {
     let alloc = rt.alloc();
     let mut device = opened(alloc, disk_of(alloc, b"")?)?;
     let on = device.submit(alloc, Hand::Script, Command::AutoSend(true));
-    let told = Told {
-        position: 2,
-        answer: Answer::Done,
-    };
-    assert_eq!(rt; on, Ok(told));
+    assert_eq!(rt; position_of(on), 2);
     let exact = device.submit(alloc, Hand::Script, Command::UpdateMode(Mode::Exact));
     assert!(rt; exact.is_ok());
-    let tick = device.submit(alloc, Hand::Script, Command::Tick);
-    let why = Refused::NotBuilt;
-    assert_eq!(rt; tick, Err(SubmitFault::Refused { position: 3, why }));
-    let settings = Settings {
-        mode: Mode::Exact,
-        auto_send: true,
-    };
-    let told = Told {
-        position: 3,
-        answer: Answer::Settings(settings),
-    };
-    assert_eq!(rt; device.ask(alloc, Hand::Sender, &Query::Settings), Ok(told));
+    let done = device.submit(alloc, Hand::Script, Command::RoundDone);
+    assert!(rt;
+        matches!(
+            done,
+            Err(SubmitFault::Refused {
+                position: 3,
+                why: Refused::NotBuilt
+            })
+        )
+    );
+    assert_eq!(rt;
+        mode_of(device.ask(alloc, Hand::Sender, &Query::Settings)),
+        Some(Mode::Exact)
+    );
     assert_eq!(rt; device.position(), 3);
     assert_eq!(rt; device.fault_count(), 0);
     let (disk, trail) = device.into_parts(alloc);
@@ -69,6 +67,17 @@ fn commands_last(rt: HostRuntime) -> Result<(), Fail> {
     assert_eq!(rt; trail.entries.len(), 3);
     an_image_reads_as_one_thing();
     Ok(())
+}
+
+// The mode told.
+fn mode_of(answer: Result<Told, SubmitFault>) -> Option<Mode> {
+    let Ok(told) = answer else {
+        return None;
+    };
+    if let Answer::Settings(settings) = told.answer {
+        return Some(settings.mode);
+    }
+    None
 }
 
 // The position told, and 10 more for a refusal.
@@ -84,7 +93,7 @@ fn position_of(answer: Result<Told, SubmitFault>) -> u64 {
 fn play<K: Caller>(alloc: Global, caller: &mut K) -> [u64; 3] {
     [
         position_of(caller.call(alloc, Command::AutoSend(true))),
-        position_of(caller.call(alloc, Command::Tick)),
+        position_of(caller.call(alloc, Command::RoundDone)),
         position_of(caller.look(alloc, &Query::Settings)),
     ]
 }
@@ -115,11 +124,11 @@ static READINGS: [(&[u8], Result<u64, OpenFault>); 8] = [
         Err(OpenFault::BadEntry { position: 1 }),
     ),
     (
-        b"ODKDEV01\xA7\x02\0\0\0\x14\0\0",
+        b"ODKDEV01\xA7\x02\0\0\0\x09\0\0",
         Err(OpenFault::IllegalEntry { position: 1 }),
     ),
     (
-        b"ODKDEV01\xA7\x03\0\0\0\x02\0\x01\xA7\x02\0\0\0\x14\0\0",
+        b"ODKDEV01\xA7\x03\0\0\0\x02\0\x01\xA7\x02\0\0\0\x09\0\0",
         Err(OpenFault::IllegalEntry { position: 2 }),
     ),
     (

@@ -1,3 +1,6 @@
+ghost use Rattle.std.specs.Prelude.{◌≡◌, IfOk, None, codes};
+ghost use Rattle.list_cases.specs.Plans.{hash_of};
+
 use field_text::{Blob, Items, Mode, Text};
 use form_list::Listed;
 use form_store::{FormRec, FormStore};
@@ -13,20 +16,29 @@ struct Plan {
     forms: FormStore,
 }
 
-fn text(alloc: Global, text: &str) -> Result<Text, AllocError> {
+fn text(alloc: Global, text: &str) -> Result<Text, AllocError>
+    ensures { IfOk result (λ copy. copy ≡ text.now) }
+{
     Ok(Text::from_string(String::from_str(alloc, text)?))
 }
 
 // The hash whose digits are all this one.
-fn hash(alloc: Global, digit: &str) -> Result<Text, AllocError> {
+fn hash(alloc: Global, digit: &str) -> Result<Text, AllocError>
+    ensures { IfOk result (λ hash. hash ≡ hash_of digit.now) }
+{
+    let digits = digit.repeat(alloc, 32)?;
     let mut hash = String::from_str(alloc, "md5:")?;
-    for _ in 0..32 {
-        hash.push_str(digit)?;
-    }
+    hash.push_str(digits.as_str())?;
     Ok(Text::from_string(hash))
 }
 
-fn listed(alloc: Global, id: &str, digit: &str) -> Result<Listed, AllocError> {
+// The form listed of `ID:DIGIT`.
+fn listed(alloc: Global, id: &str, digit: &str) -> Result<Listed, AllocError>
+    ensures id { IfOk result (λ form. form.form_id ≡ id.now) }
+    ensures version { IfOk result (λ form. form.version ≡ codes "2") }
+    ensures hash { IfOk result (λ form. form.hash ≡ hash_of digit.now) }
+    ensures manifest { IfOk result (λ form. form.manifest ≡ None) }
+{
     Ok(Listed {
         form_id: text(alloc, id)?,
         name: text(alloc, "")?,

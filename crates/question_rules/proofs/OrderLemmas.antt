@@ -1,10 +1,14 @@
--- What is shown, calculated and lacking doesn't depend on the order that a form keeps.
-use Rattle.std.specs.Prelude.{ℕ, ◌+◌, ◌≡◌, Bool, true, false, ◌&&◌, if◌then◌else◌, List, [], ◌∷◌, length, map, find, slice_get, Option, Some, None, refl}
+-- What is shown, calculated, lacking and answered doesn't depend on the order that a form keeps.
+use Rattle.std.specs.Prelude.{ℕ, ◌+◌, ◌≡◌, Bool, true, false, not, ◌&&◌, if◌then◌else◌, List, [], ◌∷◌, length, map}
+use Rattle.std.specs.Prelude.{find, slice_get, slice_set, Option, Some, None, refl}
 use Rattle.std.specs.Option.{option_map_or}
 use Rattle.std.specs.Str.{bytes_eq}
-use Rattle.std.proofs.Common.{ap, ◌∙◌}
+use Rattle.std.proofs.Common.{ap, ◌∙◌, length-set}
+use Rattle.field_text.specs.Finds.{◌>>=◌}
 use Rattle.field_text.specs.Tables.{NamedTable}
 use Rattle.form_def.specs.declared.expr.Expr.{Expr}
+use Rattle.form_def.specs.declared.field.Choices.{Choices}
+use Rattle.form_def.specs.declared.field.Choices.TheVariants.{Nothing, Fixed, Rows}
 use Rattle.form_def.specs.declared.field.Field.{Field}
 use Rattle.form_def.specs.declared.form.FormDef.{FormDef}
 use Rattle.form_def.specs.Fields.{parent_of}
@@ -12,13 +16,16 @@ use Rattle.form_def.specs.Order.{is_marked}
 use Rattle.expr_values.specs.Values.{truth_of, calculated_text}
 use Rattle.expr_values.specs.Functions.{is_some_text}
 use Rattle.expr_values.specs.Rows.{no_columns, columns_of, outer_rows}
-use Rattle.expr_values.specs.Evaluation.{value_in, text_read, surroundings_of}
+use Rattle.expr_values.specs.Evaluation.{value_in, text_read, surroundings_of, offers}
+use Rattle.question_rules.specs.declared.answers.AnswerRefused.TheVariants.{NotRelevant, ReadOnly, NotWhole, NotAChoice}
 use Rattle.question_rules.specs.declared.faults.Cause.TheVariants.{Required, Constraint}
 use Rattle.question_rules.specs.Fields.{text_at, holds_or}
 use Rattle.question_rules.specs.Shown.{is_parent_shown, is_shown_by, IsShown}
 use Rattle.question_rules.specs.Settled.{text_by, IsSettledWith}
 use Rattle.question_rules.specs.Along.{shown_marks, settled}
 use Rattle.question_rules.specs.Faults.{fault_at, fault_or, fault_from, first_fault_of}
+use Rattle.question_rules.specs.Answers.{offered, is_no_number, is_no_choice, bad_text, refusal}
+use Rattle.question_rules.specs.Answered.{question, refusal_at, or_refused, answered_at, answered}
 use Rattle.question_rules.specs.Orders.{DifferInOrder}
 use Rattle.question_rules.proofs.Making.{shown_is, settled_is}
 use Rattle.question_rules.proofs.Unique.{one_shown, one_settled}
@@ -109,3 +116,65 @@ same_first_fault one other tables texts d long =
     ap (λ marks. fault_from one tables texts marks 0 one.fields) (same_marks one other tables texts d long)
     ∙ same_from one other d tables texts (shown_marks other tables texts) 0 one.fields
     ∙ ap (fault_from other tables texts (shown_marks other tables texts) 0) d.fields
+
+same_offered : (one other : FormDef) → DifferInOrder one other
+    → (tables : List NamedTable) (texts : List (List ℕ)) (marks : List Bool) (own : ℕ)
+    (choices : Choices) → offered one tables texts marks own choices ≡ offered other tables texts marks own choices
+same_offered one other d tables texts marks own Nothing = refl
+same_offered one other d tables texts marks own (Fixed values) = refl
+same_offered one other d tables texts marks own (Rows table filter value) =
+    ap (λ s. offers s filter value (s.rows table)) (same_surroundings one other d tables texts marks own)
+
+same_refusal : (one other : FormDef) → DifferInOrder one other
+    → (tables : List NamedTable) (texts : List (List ℕ)) (marks : List Bool) (number : ℕ)
+    (field : Field) (text : List ℕ) → refusal one tables texts marks number field text
+    ≡ refusal other tables texts marks number field text
+same_refusal one other d tables texts marks number field text =
+    ap (λ locked. if not (is_marked marks number) then Some NotRelevant else if locked then Some ReadOnly else
+    if is_no_number field.kind text then Some NotWhole else
+    if is_no_choice field.kind (offered one tables texts marks number field.choices) text then Some NotAChoice
+    else bad_text text)
+    (same_holds one other d tables texts marks number false field.readonly)
+    ∙ ap (λ values. if not (is_marked marks number) then Some NotRelevant else
+    if holds_or false other tables texts marks number field.readonly then Some ReadOnly else
+    if is_no_number field.kind text then Some NotWhole else if is_no_choice field.kind values text then Some NotAChoice
+    else bad_text text)
+    (same_offered one other d tables texts marks number field.choices)
+
+same_refusal_of : (one other : FormDef) → DifferInOrder one other
+    → (tables : List NamedTable) (texts : List (List ℕ)) (marks : List Bool) (number : ℕ)
+    (text : List ℕ) (found : Option Field)
+    → (found >>= λ field. refusal one tables texts marks number field text)
+    ≡ (found >>= λ field. refusal other tables texts marks number field text)
+same_refusal_of one other d tables texts marks number text None = refl
+same_refusal_of one other d tables texts marks number text (Some field) =
+    same_refusal one other d tables texts marks number field text
+
+same_refusal_at : (one other : FormDef) (tables : List NamedTable) (texts : List (List ℕ)) → DifferInOrder one other
+    → length texts ≡ length one.fields → (number : ℕ) (text : List ℕ)
+    → refusal_at one tables texts number text ≡ refusal_at other tables texts number text
+same_refusal_at one other tables texts d long number text =
+    ap (λ marks. slice_get one.fields number >>= λ field. refusal one tables texts marks number field text)
+    (same_marks one other tables texts d long)
+    ∙ same_refusal_of one other d tables texts (shown_marks other tables texts) number text
+    (slice_get one.fields number)
+    ∙ ap (λ fields. slice_get fields number >>= λ field. refusal other tables texts
+    (shown_marks other tables texts) number field text) d.fields
+
+same_answered_at : (one other : FormDef) (tables : List NamedTable) (texts : List (List ℕ)) → DifferInOrder one other
+    → length texts ≡ length one.fields → (text : List ℕ) (found : Option ℕ)
+    → answered_at one tables texts text found ≡ answered_at other tables texts text found
+same_answered_at one other tables texts d long text None = refl
+same_answered_at one other tables texts d long text (Some number) =
+    let put = slice_set texts number text in
+    ap (λ why. or_refused why (settled one tables put).texts)
+    (same_refusal_at one other tables texts d long number text)
+    ∙ ap (or_refused (refusal_at other tables texts number text)) (same_texts one other tables put d
+    (length-set texts number text ∙ long))
+
+pub same_answers : (one other : FormDef) (tables : List NamedTable) (texts : List (List ℕ)) (path text : List ℕ)
+    → DifferInOrder one other
+    → length texts ≡ length one.fields → answered one tables texts path text ≡ answered other tables texts path text
+same_answers one other tables texts path text d long =
+    same_answered_at one other tables texts d long text (question one.fields path)
+    ∙ ap (λ fields. answered_at other tables texts text (question fields path)) d.fields

@@ -4,6 +4,7 @@ ghost use Rattle.form_def.specs.declared.form.FormDef.{FormDef};
 ghost use Rattle.question_rules.specs.Shown.{IsShown};
 ghost use Rattle.question_rules.specs.Settled.{IsSettled};
 ghost use Rattle.question_rules.specs.Along.{shown_marks, settled};
+ghost use Rattle.question_rules.specs.Answered.{answered};
 ghost use Rattle.question_rules.specs.Faults.{first_fault_of, IsLeastFault};
 ghost use Rattle.question_rules.specs.Orders.{DifferInOrder};
 
@@ -42,4 +43,11 @@ pub fn order_leaves_texts()
 pub fn order_leaves_the_first_fault()
     ensures { (one other : FormDef) (tables : List NamedTable) (texts : List (List ℕ)) → DifferInOrder one other
         → length texts ≡ length one.fields → first_fault_of one tables texts ≡ first_fault_of other tables texts }
+{}
+
+/// A law of the definitions: what an answer makes of texts, or is refused for, doesn't depend on a form's order.
+pub fn order_leaves_answers()
+    ensures { (one other : FormDef) (tables : List NamedTable) (texts : List (List ℕ)) (path text : List ℕ)
+        → DifferInOrder one other → length texts ≡ length one.fields
+        → answered one tables texts path text ≡ answered other tables texts path text }
 {}

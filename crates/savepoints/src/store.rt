@@ -1,8 +1,8 @@
 ghost use Rattle.std.specs.Prelude.{◌≡◌, [], ◌+◌, ◌<◌, ◌≤◌, None, option_map, OnOk};
-ghost use Rattle.savepoints.specs.Savepoints.{found, is_at, place_of, put, removed, sheet_at};
+ghost use Rattle.savepoints.specs.Savepoints.{found, is_at, place_of, put, removed, removed_on, sheet_at, stands_on};
 
-use crate::Key;
 use crate::keys::same_key;
+use crate::{Key, KeyBase};
 use field_rows::Rows;
 use field_text::NoMemory;
 use question_rules::Sheet;
@@ -37,6 +37,15 @@ fn place_of(savepoints: &[Savepoint], key: &Key) -> Option<usize>
     savepoints
         .iter()
         .position(|savepoint| same_key(key, &savepoint.key))
+}
+
+fn stands_on(savepoint: &Savepoint, number: u64) -> bool
+    ensures { result ≡ stands_on number savepoint.now }
+{
+    match savepoint.key.base {
+        KeyBase::Blank => false,
+        KeyBase::Draft(base) | KeyBase::Edit(base) => base == number,
+    }
 }
 
 impl Savepoints {
@@ -88,6 +97,21 @@ impl Savepoints {
             None => {
                 self.rows.push(Savepoint { key, sheet });
                 None
+            }
+        }
+    }
+
+    /// Takes out each savepoint that stands on the instance with this number; the others stay in their order.
+    pub fn remove_on(&mut self, number: u64)
+        ensures savepoints { self.new.items ≡ removed_on number self.old.items }
+        ensures spare { self.old.spare ≤ self.new.spare }
+    {
+        let mut place = 0;
+        while place < self.rows.count() {
+            if stands_on(self.rows.at(place), number) {
+                self.rows.remove(place);
+            } else {
+                place += 1;
             }
         }
     }

@@ -1,0 +1,2 @@
+pub mod KeptFormLemmas
+pub mod KeptLemmas

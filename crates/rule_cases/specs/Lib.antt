@@ -1,0 +1,5 @@
+pub mod Words
+pub mod Expressions
+pub mod Forms
+pub mod Documents
+pub mod Values
