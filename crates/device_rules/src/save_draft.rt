@@ -44,7 +44,7 @@ fn new_name(state: &State, edit_of: Option<u64>, deprecated: Option<Text>) -> Re
     ensures name { Gives rule_of (λ name. name) result (new_name (plain state.now) edit_of deprecated) }
     ensures room { OnOk result (state.now.counters.next_instance < 2 ^ 62) }
 {
-    if state.instances.count() >= INSTANCE_LIMIT {
+    if state.instances.as_slice().len() as u64 >= INSTANCE_LIMIT {
         return Err(Refused::Limit {
             which: Which::Instances,
             number: INSTANCE_LIMIT,

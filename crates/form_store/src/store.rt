@@ -111,15 +111,6 @@ impl FormStore {
         }
     }
 
-    /// Takes room for one more form, where there is none.
-    pub fn reserve(&mut self) -> Result<(), NoMemory>
-        ensures records { self.new.items ≡ self.old.items }
-        ensures ok { OnOk result (1 ≤ self.new.spare) }
-        ensures kept { self.old.spare ≤ self.new.spare }
-    {
-        self.rows.reserve()
-    }
-
     pub fn count(&self) -> u64
         ensures { result ≡ length self.now.items }
     {
@@ -186,6 +177,15 @@ impl FormStore {
     {
         let records = self.rows.as_slice();
         check_at(records, exact(records, id, version), bytes)
+    }
+
+    /// Takes room for one more form, where there is none.
+    pub fn reserve(&mut self) -> Result<(), NoMemory>
+        ensures records { self.new.items ≡ self.old.items }
+        ensures ok { OnOk result (1 ≤ self.new.spare) }
+        ensures kept { self.old.spare ≤ self.new.spare }
+    {
+        self.rows.reserve()
     }
 
     /// Puts a form: a fresh one behind the others; one that is kept with the same bytes gets `visible`, `put_at` and

@@ -59,21 +59,6 @@ impl Savepoints {
         }
     }
 
-    /// Takes room for one more savepoint, where there is none.
-    pub fn reserve(&mut self) -> Result<(), NoMemory>
-        ensures savepoints { self.new.items ≡ self.old.items }
-        ensures ok { OnOk result (1 ≤ self.new.spare) }
-        ensures kept { self.old.spare ≤ self.new.spare }
-    {
-        self.rows.reserve()
-    }
-
-    pub fn as_slice(&self) -> &[Savepoint]
-        ensures { result.now ≡ self.now.items }
-    {
-        self.rows.as_slice()
-    }
-
     /// The sheet of this key.
     pub fn find(&self, key: &Key) -> Option<&Sheet>
         ensures { option_map (λ sheet. sheet.now) result ≡ found key.now self.now.items }
@@ -83,6 +68,21 @@ impl Savepoints {
             Some(place) => Some(&savepoints[place].sheet),
             None => None,
         }
+    }
+
+    pub fn as_slice(&self) -> &[Savepoint]
+        ensures { result.now ≡ self.now.items }
+    {
+        self.rows.as_slice()
+    }
+
+    /// Takes room for one more savepoint, where there is none.
+    pub fn reserve(&mut self) -> Result<(), NoMemory>
+        ensures savepoints { self.new.items ≡ self.old.items }
+        ensures ok { OnOk result (1 ≤ self.new.spare) }
+        ensures kept { self.old.spare ≤ self.new.spare }
+    {
+        self.rows.reserve()
     }
 
     /// Puts the sheet of a key, and gives the one that it had.

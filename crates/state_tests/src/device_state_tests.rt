@@ -4,6 +4,7 @@ use device_state::{
 use field_text::{Blob, Text};
 use form_store::FormRec;
 use std::alloc::Global;
+use std::process::Abort;
 use std::test::Fail;
 
 fn form(alloc: Global) -> Result<FormRec, Fail> {
@@ -37,18 +38,21 @@ fn change(state: &mut State, changes: Changes) -> Result<(), Fail> {
     Ok(())
 }
 
-#[test]
-fn hidden_forms_that_nothing_names_are_gone(rt: HostRuntime) -> Result<(), Fail> {
-    let alloc = rt.alloc();
-    let mut state = State::initial(alloc);
+fn check_hiding(rt: &impl Abort, alloc: Global, state: &mut State) -> Result<(), Fail> {
     let counters = state.counters;
     let put = FormChange::Put(form(alloc)?);
-    change(&mut state, with_forms(counters, put))?;
+    change(state, with_forms(counters, put))?;
     assert_eq!(rt; state.forms.count(), 1);
     let id = Text::from_bytes(alloc, b"leaf")?;
-    change(&mut state, with_forms(counters, FormChange::Hide(id)))?;
+    change(state, with_forms(counters, FormChange::Hide(id)))?;
     assert_eq!(rt; state.forms.count(), 0);
     Ok(())
+}
+
+#[test]
+fn hidden_forms_that_nothing_names_are_gone(rt: HostRuntime) -> Result<(), Fail> {
+    let mut state = State::initial(rt.alloc());
+    check_hiding(&rt, rt.alloc(), &mut state)
 }
 
 #[test]
