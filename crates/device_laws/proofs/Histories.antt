@@ -14,7 +14,7 @@ use Rattle.device_state.specs.declared.state.State.{State}
 use Rattle.device_state.specs.Purging.{purged}
 use Rattle.device_state.specs.State.{initial}
 use Rattle.entry_form.specs.declared.entry.Entry.{Entry}
-use Rattle.device_laws.specs.Soundness.{IsSound, StaysWhereNamed}
+use Rattle.device_laws.specs.Soundness.{IsSound, KeepsUsedForms, StaysWhereNamed}
 use Rattle.device_laws.proofs.Commands.{entered_keeps}
 use Rattle.device_laws.proofs.Following.{came, carried_stays, purged_sound}
 
@@ -53,3 +53,9 @@ replay_sound (entry ∷ entries) start state sound reached =
 
 pub history_sound : (entries : List Entry) (state : State) → replay initial entries ≡ Some state → IsSound state
 history_sound entries state reached = replay_sound entries initial state initial_sound reached
+
+pub history_keeps : (entries : List Entry) → KeepsUsedForms entries
+history_keeps entries = record {
+    sound = λ front behind state is reached. history_sound front state reached;
+    stays = λ front behind entry state next answer is reached steps.
+        used_stay state next entry answer (history_sound front state reached) steps }

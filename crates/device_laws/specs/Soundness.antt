@@ -1,10 +1,15 @@
 -- What holds of every state that a legal history leads to: whatever names a form version finds it.
-use Rattle.std.specs.Prelude.{◌≡◌, ◌⊎◌, Bool, true, false, ◌||◌, List, [], ◌∷◌, ⊤}
+use Rattle.std.specs.Prelude.{◌≡◌, ◌⊎◌, Bool, true, false, ◌||◌, List, [], ◌∷◌, ◌++◌, ⊤, Some, Ok}
 use Rattle.std.specs.List.{AllByRecursion, list_any}
 use Rattle.std.specs.Option.{IfSome}
+use Rattle.entry_form.specs.declared.entry.Entry.{Entry}
 use Rattle.device_state.specs.declared.entry.OpenEntry.{OpenEntry}
 use Rattle.device_state.specs.declared.state.State.{State}
+use Rattle.device_state.specs.State.{initial}
 use Rattle.device_state.specs.Purging.{entry_names, instance_names, open_names, savepoint_names}
+use Rattle.device_rules.specs.declared.answer.Answer.{Answer}
+use Rattle.device_rules.specs.Step.{step}
+use Rattle.device_rules.specs.Trail.{replay}
 use Rattle.form_store.specs.Forms.{is_form as is_version}
 use Rattle.form_store.specs.declared.records.FormRec.{FormRec}
 use Rattle.instance_store.specs.declared.records.InstanceRec.{InstanceRec}
@@ -75,3 +80,11 @@ pub record IsSameForm (r other : FormRec) : Type 0 where
 -- the record is there with the same bytes, if something names it
 abbrev pub StaysWhereNamed : State → FormRec → Type 0
 StaysWhereNamed state r = is_named state r ≡ true → AnyByRecursion (IsSameForm r) state.forms.items
+
+-- Behind each front of a history whatever names a form finds it, and the next entry leaves what is named with its bytes.
+pub record KeepsUsedForms (entries : List Entry) : Type 0 where
+  pub sound : (front behind : List Entry) (state : State) → entries ≡ front ++ behind
+      → replay initial front ≡ Some state → IsSound state
+  pub stays : (front behind : List Entry) (entry : Entry) (state next : State) (answer : Answer)
+      → entries ≡ front ++ entry ∷ behind → replay initial front ≡ Some state → step state entry ≡ Ok (next, answer)
+      → AllByRecursion (StaysWhereNamed next) state.forms.items

@@ -6,7 +6,7 @@ ghost use Rattle.device_state.specs.declared.state.State.{State};
 ghost use Rattle.device_rules.specs.declared.answer.Answer.{Answer};
 ghost use Rattle.device_rules.specs.Step.{step};
 ghost use Rattle.device_rules.specs.Trail.{replay};
-ghost use Rattle.device_laws.specs.Soundness.{IsSound, StaysWhereNamed};
+ghost use Rattle.device_laws.specs.Soundness.{IsSound, KeepsUsedForms, StaysWhereNamed};
 
 /// A law of the rules: before the first entry nothing names a form.
 pub fn initial_is_sound()
@@ -29,4 +29,9 @@ pub fn histories_are_sound()
 pub fn used_forms_stay()
     ensures { (state next : State) (entry : Entry) (answer : Answer) → IsSound state
         → step state entry ≡ Ok (next, answer) → AllByRecursion (StaysWhereNamed next) state.forms.items }
+{}
+
+/// A law of the rules: over each history the forms that something names are kept and stay as they are.
+pub fn histories_keep_used_forms()
+    ensures { (entries : List Entry) → KeepsUsedForms entries }
 {}

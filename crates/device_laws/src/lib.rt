@@ -4,4 +4,7 @@
 
 mod laws;
 
-pub use laws::{histories_are_sound, initial_is_sound, steps_keep_soundness, used_forms_stay};
+pub use laws::{
+    histories_are_sound, histories_keep_used_forms, initial_is_sound, steps_keep_soundness,
+    used_forms_stay,
+};
