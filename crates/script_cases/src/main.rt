@@ -1,28 +1,12 @@
 //! Runs the scripts of the data folder over journals in memory, and prints what each run prints.
 #![tactic(auto)]
 
+mod cases;
 mod runs;
 mod scripts;
 
-use crate::runs::Runs;
-use crate::scripts::with_forms;
-use field_text::NoMemory;
-use std::alloc::AllocError;
+use crate::cases::print_case;
 use std::{fs, io};
-
-/// Runs the scripts of a case one after another over one journal.
-fn print_case(rt: &HostRuntime, scripts: &str) -> io::Result<()> {
-    let mut runs = Runs::new(rt.alloc());
-    for script in scripts.split("-- again\n") {
-        let script = with_forms(rt, script)?;
-        let printed = match runs.run(rt.alloc(), script) {
-            Ok(printed) => printed,
-            Err(NoMemory) => return Err(AllocError.into()),
-        };
-        print!(rt; "{printed}")?;
-    }
-    Ok(())
-}
 
 fn main(rt: HostRuntime) -> io::Result<()> {
     let text = fs::read_to_string(&rt, "scripts.txt")?;

@@ -4,7 +4,7 @@ ghost use Rattle.std.specs.Fmt.{decimal};
 ghost use Rattle.std.specs.Str.{string_bytes};
 
 use collect_top::{Done, Hand1, Hands, collect_alone};
-use disk_model::{Disk, MemDisk};
+use disk_model::{Disk, FusedDisk, MemDisk};
 use field_io::{FixedClock, MemDialer, MemSink, MemSource};
 use field_text::{NoMemory, Text};
 use std::alloc::Global;
@@ -48,22 +48,31 @@ fn disk_of(alloc: Global, journal: &[u8]) -> Result<MemDisk, NoMemory>
     MemDisk::make(alloc, Vec::from_slice(alloc, journal)?)
 }
 
-// The status of a run, and the disk behind it.
-fn run_over(
-    alloc: Global,
-    disk: MemDisk,
-    source: &mut MemSource,
-    sink: &mut MemSink,
-) -> Result<(u8, MemDisk), NoMemory> {
+/// What a run left: its status, what it printed, and the disk.
+#[derive(Drop)]
+pub struct Left<D> {
+    pub status: u8,
+    pub printed: String,
+    pub disk: D,
+}
+
+fn run_over<D: Disk + Drop>(alloc: Global, disk: D, script: &[u8]) -> Result<Left<D>, NoMemory> {
     let words = run_word(alloc)?;
-    let done = collect_alone(alloc, &words, source, sink, disk, quiet_hands(alloc));
+    let mut source = MemSource::make(Vec::from_slice(alloc, script)?, Vec::new(alloc));
+    let mut sink = MemSink::make(Vec::new(alloc), Vec::new(alloc));
+    let done = collect_alone(alloc, &words, &mut source, &mut sink, disk, quiet_hands(alloc));
     let Done {
         status,
         disk,
         hands: _,
         trail: _,
     } = done;
-    Ok((status, disk))
+    let printed = printed(alloc, status, sink.bytes())?;
+    Ok(Left {
+        status,
+        printed,
+        disk,
+    })
 }
 
 fn status_line(alloc: Global, status: u8) -> Result<String, NoMemory>
@@ -90,12 +99,28 @@ impl Runs {
     }
 
     /// What a script prints over the journal.
-    pub fn run(&mut self, alloc: Global, script: Vec<u8>) -> Result<String, NoMemory> {
-        let mut source = MemSource::make(script, Vec::new(alloc));
-        let mut sink = MemSink::make(Vec::new(alloc), Vec::new(alloc));
+    pub fn run(&mut self, alloc: Global, script: &[u8]) -> Result<String, NoMemory> {
         let disk = disk_of(alloc, self.journal.as_slice())?;
-        let (status, disk) = run_over(alloc, disk, &mut source, &mut sink)?;
-        self.journal = Vec::from_slice(alloc, disk.bytes())?;
-        printed(alloc, status, sink.bytes())
+        let left = run_over(alloc, disk, script)?;
+        self.journal = Vec::from_slice(alloc, left.disk.bytes())?;
+        Ok(left.printed)
     }
+}
+
+/// Runs a script over an empty disk that stops at the call with this number.
+pub fn run_to_stop(alloc: Global, call: u64, script: &[u8]) -> Result<Left<MemDisk>, NoMemory> {
+    let disk = FusedDisk::make(disk_of(alloc, b"")?, call);
+    let left = run_over(alloc, disk, script)?;
+    Ok(Left {
+        status: left.status,
+        printed: left.printed,
+        disk: left.disk.into_disk(),
+    })
+}
+
+/// What a script prints over the disk that a run left.
+pub fn run_behind(alloc: Global, left: Left<MemDisk>, script: &[u8]) -> Result<String, NoMemory> {
+    let Left { disk, .. } = left;
+    let left = run_over(alloc, disk, script)?;
+    Ok(left.printed)
 }
