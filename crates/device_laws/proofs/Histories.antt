@@ -56,6 +56,7 @@ history_sound entries state reached = replay_sound entries initial state initial
 
 pub history_keeps : (entries : List Entry) → KeepsUsedForms entries
 history_keeps entries = record {
-    sound = λ front behind state is reached. history_sound front state reached;
-    stays = λ front behind entry state next answer is reached steps.
-        used_stay state next entry answer (history_sound front state reached) steps }
+  sound = λ front behind state is reached. history_sound front state reached;
+  stays = λ front behind entry state next answer is reached steps.
+      used_stay state next entry answer (history_sound front state reached) steps;
+}

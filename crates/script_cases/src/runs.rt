@@ -60,7 +60,14 @@ fn run_over<D: Disk + Drop>(alloc: Global, disk: D, script: &[u8]) -> Result<Lef
     let words = run_word(alloc)?;
     let mut source = MemSource::make(Vec::from_slice(alloc, script)?, Vec::new(alloc));
     let mut sink = MemSink::make(Vec::new(alloc), Vec::new(alloc));
-    let done = collect_alone(alloc, &words, &mut source, &mut sink, disk, quiet_hands(alloc));
+    let done = collect_alone(
+        alloc,
+        &words,
+        &mut source,
+        &mut sink,
+        disk,
+        quiet_hands(alloc),
+    );
     let Done {
         status,
         disk,
