@@ -1,7 +1,6 @@
 // Runs of the program over a journal in memory.
-ghost use Rattle.std.specs.Prelude.{◌≡◌, [], ◌∷◌, ◌++◌, codes, IfOk, Some};
+ghost use Rattle.std.specs.Prelude.{◌≡◌, [], ◌∷◌, ◌++◌, codes, string_bytes, IfOk, Some};
 ghost use Rattle.std.specs.Fmt.{decimal};
-ghost use Rattle.std.specs.Str.{string_bytes};
 
 use collect_top::{Done, Hand1, Hands, collect_alone};
 use disk_model::{Disk, FusedDisk, MemDisk};
@@ -56,24 +55,29 @@ pub struct Left<D> {
     pub disk: D,
 }
 
-fn run_over<D: Disk + Drop>(alloc: Global, disk: D, script: &[u8]) -> Result<Left<D>, NoMemory> {
-    let words = run_word(alloc)?;
-    let mut source = MemSource::make(Vec::from_slice(alloc, script)?, Vec::new(alloc));
-    let mut sink = MemSink::make(Vec::new(alloc), Vec::new(alloc));
-    let done = collect_alone(
-        alloc,
-        &words,
-        &mut source,
-        &mut sink,
-        disk,
-        quiet_hands(alloc),
-    );
+// The status of a call of the program, and the disk behind it.
+fn call<D: Disk + Drop>(
+    alloc: Global,
+    words: &[Text],
+    source: &mut MemSource,
+    sink: &mut MemSink,
+    disk: D,
+) -> (u8, D) {
+    let done = collect_alone(alloc, words, source, sink, disk, quiet_hands(alloc));
     let Done {
         status,
         disk,
         hands: _,
         trail: _,
     } = done;
+    (status, disk)
+}
+
+fn run_over<D: Disk + Drop>(alloc: Global, disk: D, script: &[u8]) -> Result<Left<D>, NoMemory> {
+    let words = run_word(alloc)?;
+    let mut source = MemSource::make(Vec::from_slice(alloc, script)?, Vec::new(alloc));
+    let mut sink = MemSink::make(Vec::new(alloc), Vec::new(alloc));
+    let (status, disk) = call(alloc, &words, &mut source, &mut sink, disk);
     let printed = printed(alloc, status, sink.bytes())?;
     Ok(Left {
         status,
