@@ -1,0 +1,5 @@
+//! Tests of the documents of instances.
+#![tactic(auto)]
+
+#[cfg(test)]
+mod try_tests;

@@ -1,0 +1,6 @@
+pub mod Markup
+pub mod Rows
+pub mod Views
+pub mod Elements
+pub mod Documents
+pub mod Instances
