@@ -1,5 +1,5 @@
-//! Tests of the documents of instances.
+//! Tests of the documents of instances. Each public function is called once.
 #![tactic(auto)]
 
 #[cfg(test)]
-mod try_tests;
+mod instance_doc_tests;

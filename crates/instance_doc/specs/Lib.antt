@@ -3,4 +3,5 @@ pub mod Rows
 pub mod Views
 pub mod Elements
 pub mod Documents
+pub mod Returns
 pub mod Instances

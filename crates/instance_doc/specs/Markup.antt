@@ -13,10 +13,20 @@ in_utf8 name = encode_utf8_all (chars name)
 abbrev pub escaped : List ℕ → List ℕ
 escaped text = flat_map in_text (chars text)
 
+abbrev pub start_tag : List ℕ → List ℕ
+start_tag name = start_text (in_utf8 name)
+
+abbrev pub end_tag : List ℕ → List ℕ
+end_tag name = end_text (in_utf8 name)
+
 -- an element of this name round what stands inside, which is one tag where that is nothing
 abbrev pub element : List ℕ → List ℕ → List ℕ
 element name [] = codes "<" ++ (in_utf8 name ++ codes "/>")
-element name (b ∷ bs) = start_text (in_utf8 name) ++ ((b ∷ bs) ++ end_text (in_utf8 name))
+element name (b ∷ bs) = start_tag name ++ ((b ∷ bs) ++ end_tag name)
+
+-- a value between its quotes
+abbrev pub quoted : List ℕ → List ℕ
+quoted value = codes "=\"" ++ (flat_map in_value (chars value) ++ codes "\"")
 
 abbrev pub attribute : List ℕ → List ℕ → List ℕ
-attribute name value = codes " " ++ (in_utf8 name ++ (codes "=\"" ++ (flat_map in_value (chars value) ++ codes "\"")))
+attribute name value = codes " " ++ (in_utf8 name ++ quoted value)

@@ -32,12 +32,13 @@ last_part (part ∷ next ∷ others) = last_part (next ∷ others)
 abbrev pub last_name : List ℕ → List ℕ
 last_name path = last_part (parts_of path)
 
--- the path of what has this path in `meta`
+-- the whole path of what has this path in `meta`
 abbrev pub meta_path : List ℕ → List ℕ → List ℕ
 meta_path root path = codes "/" ++ (root ++ (codes "/meta/" ++ path))
 
+-- a path with the front that paths in `meta` have
 abbrev pub is_in_meta : List ℕ → List ℕ → Bool
-is_in_meta root path = starts_with nat_eq path (meta_path root [])
+is_in_meta meta path = starts_with nat_eq path meta
 
 -- the first row of a path
 abbrev pub row_at : List ℕ → List Row → Option Row

@@ -1,6 +1,8 @@
-ghost use Rattle.std.specs.Prelude.{◌≡◌, ◌++◌, IfOk, OnOk};
+ghost use Rattle.std.specs.Prelude.{◌≡◌, ◌++◌, IfOk, OnOk, true};
 ghost use Rattle.field_text.specs.Steps.{Gives};
-ghost use Rattle.instance_doc.specs.Documents.{declaration, doc_of, fault_of, limited, namespaces, root_tag};
+ghost use Rattle.instance_doc.specs.Documents.{declaration, doc_of, document, fault_of, limited};
+ghost use Rattle.instance_doc.specs.Documents.{namespaces, root_attributes, root_content, root_name, root_tag, root_text};
+ghost use Rattle.instance_doc.specs.Returns.{lacks_return};
 ghost use Rattle.instance_doc.specs.Views.{rows_in};
 
 use crate::elements::push_fields;
@@ -15,37 +17,84 @@ use std::alloc::Global;
 /// How many bytes the document of an instance may have.
 pub const DOCUMENT_LIMIT: usize = 131_072;
 
-fn push_declaration(out: &mut Vec<u8>) -> Result<(), NoMemory> {
+#[tactic(auto, unfolding(crate::specs::Documents::declaration))]
+fn push_declaration(out: &mut Vec<u8>) -> Result<(), NoMemory>
+    ensures { OnOk result (out.new.items ≡ out.old.items ++ declaration) }
+{
     Ok(out.extend_from_slice(b"<?xml version=\"1.0\" encoding=\"UTF-8\"?>")?)
 }
 
-fn push_namespaces(out: &mut Vec<u8>) -> Result<(), NoMemory> {
+#[tactic(auto, unfolding(crate::specs::Documents::namespaces))]
+fn push_namespaces(out: &mut Vec<u8>) -> Result<(), NoMemory>
+    ensures { OnOk result (out.new.items ≡ out.old.items ++ namespaces) }
+{
     out.extend_from_slice(b" xmlns:orx=\"http://openrosa.org/xforms\"")?;
     out.extend_from_slice(b" xmlns:entities=\"http://www.opendatakit.org/xforms/entities\"")?;
     Ok(())
 }
 
-fn push_root_tag(form: &FormDef, out: &mut Vec<u8>) -> Result<(), NoMemory> {
+fn push_root_name(form: &FormDef, out: &mut Vec<u8>) -> Result<(), NoMemory>
+    ensures { OnOk result (out.new.items ≡ out.old.items ++ root_name form.now) }
+{
     out.push(b'<')?;
     push_name(form.root.as_str(), out)?;
-    push_namespaces(out)?;
+    push_namespaces(out)
+}
+
+fn push_root_attributes(form: &FormDef, out: &mut Vec<u8>) -> Result<(), NoMemory>
+    ensures { OnOk result (out.new.items ≡ out.old.items ++ root_attributes form.now) }
+{
     push_attribute("id", &form.id, out)?;
-    push_attribute("version", &form.version, out)?;
+    push_attribute("version", &form.version, out)
+}
+
+fn push_root_tag(form: &FormDef, out: &mut Vec<u8>) -> Result<(), NoMemory>
+    ensures { OnOk result (out.new.items ≡ out.old.items ++ root_tag form.now) }
+{
+    push_root_name(form, out)?;
+    push_root_attributes(form, out)?;
     Ok(out.push(b'>')?)
 }
 
-fn push_document(
+fn push_root_content(
     alloc: Global,
     form: &FormDef,
-    rows: Rows,
+    rows: &Rows,
     meta: &Meta,
     out: &mut Vec<u8>,
-) -> Result<(), NoMemory> {
-    push_declaration(out)?;
-    push_root_tag(form, out)?;
+) -> Result<(), NoMemory>
+    ensures { OnOk result (out.new.items ≡ out.old.items ++ root_content form.now (rows_in rows.now) meta.now) }
+{
     push_fields(alloc, &form.root, rows, out)?;
-    push_meta(alloc, form, rows, meta, out)?;
+    push_meta(alloc, form, rows, meta, out)
+}
+
+fn push_root(
+    alloc: Global,
+    form: &FormDef,
+    rows: &Rows,
+    meta: &Meta,
+    out: &mut Vec<u8>,
+) -> Result<(), NoMemory>
+    ensures { OnOk result (out.new.items ≡ out.old.items ++ root_text form.now (rows_in rows.now) meta.now) }
+{
+    push_root_tag(form, out)?;
+    push_root_content(alloc, form, rows, meta, out)?;
     push_end(form.root.as_str(), out)
+}
+
+fn document(
+    alloc: Global,
+    form: &FormDef,
+    rows: &Rows,
+    meta: &Meta,
+) -> Result<Vec<u8>, NoMemory>
+    ensures { IfOk result (λ bytes. bytes.items ≡ document form.now (rows_in rows.now) meta.now) }
+{
+    let mut out = Vec::new(alloc);
+    push_declaration(&mut out)?;
+    push_root(alloc, form, rows, meta, &mut out)?;
+    Ok(out)
 }
 
 fn limited(document: Vec<u8>) -> Result<Blob, DocFault>
@@ -67,13 +116,14 @@ pub fn doc_bytes(
     texts: &[Text],
     shown: &[bool],
     meta: &Meta,
-) -> Result<Blob, DocFault> {
+) -> Result<Blob, DocFault>
+    ensures document { Gives fault_of (λ blob. blob) result (limited (doc_of form.now texts.now shown.now meta.now)) }
+    ensures no_return { IfOk result (λ blob. lacks_return blob ≡ true) }
+{
     let rows = Rows {
         fields: form.fields.as_slice(),
         texts,
         shown,
     };
-    let mut out = Vec::new(alloc);
-    push_document(alloc, form, rows, meta, &mut out)?;
-    limited(out)
+    limited(document(alloc, form, &rows, meta)?)
 }

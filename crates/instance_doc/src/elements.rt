@@ -1,28 +1,34 @@
-ghost use Rattle.std.specs.Prelude.{◌≡◌, ◌++◌, ◌≤◌, [], IfOk, OnOk, length};
-ghost use Rattle.form_def.specs.Paths.{parent_path as parent_of};
-ghost use Rattle.instance_doc.specs.Rows.{is_in_meta, meta_path};
-ghost use Rattle.instance_doc.specs.Elements.{behind, children, field_text, fields_text, is_written, placed, texts_of};
+ghost use Rattle.std.specs.Prelude.{◌≡◌, ◌++◌, ◌≤◌, ℕ, List, [], IfOk, OnOk, length};
+ghost use Rattle.instance_doc.specs.Rows.{content};
+ghost use Rattle.instance_doc.specs.Elements.{behind, children, field_text, fields_text, is_written};
+ghost use Rattle.instance_doc.specs.Elements.{placed, texts_of};
 ghost use Rattle.instance_doc.specs.Views.{row_in, rows_in};
 
 use crate::markup::{close_element, push_start};
-use crate::rows::{Row, Rows, last_name, meta_path, push_content, split_rows};
+use crate::rows::{Row, Rows, is_group, last_name, meta_path, push_content, split_rows};
 use field_text::{NoMemory, Text};
-use form_def::{Kind, parent_path};
+use form_def::parent_path;
 use std::alloc::Global;
 
-/// Whether the field is written among the fields.
-fn is_written(meta: &str, row: Row) -> bool {
-    row.shown && !row.field.path.as_str().starts_with(meta)
+/// Whether a field is written outside `meta`, where paths begin with this.
+fn is_written(meta: &[u8], row: &Row) -> bool
+    ensures { result ≡ is_written meta.now (row_in row.now) }
+{
+    row.shown && !row.field.path.bytes().starts_with(meta)
 }
 
 /// The rows behind those below a path.
-fn past_children<'a>(parent: &[u8], rows: Rows<'a>) -> Rows<'a> {
-    let mut rest = rows;
-    while let Some((row, others)) = split_rows(rest) {
+fn past_children<'a>(parent: &[u8], rows: &Rows<'a>) -> Rows<'a>
+    ensures rest { (meta : List ℕ)
+        → placed meta (rows_in result) ≡ behind parent.now (placed meta (rows_in rows.now)) }
+    ensures shorter { length result.fields.now ≤ length rows.now.fields.now }
+{
+    let mut rest = *rows;
+    while let Some((row, others)) = split_rows(&rest) {
         if parent_path(row.field.path.bytes()) != parent {
             return rest;
         }
-        rest = past_children(row.field.path.bytes(), others);
+        rest = past_children(row.field.path.bytes(), &others);
     }
     rest
 }
@@ -30,17 +36,23 @@ fn past_children<'a>(parent: &[u8], rows: Rows<'a>) -> Rows<'a> {
 /// Appends the elements right below a path, and gives the rows behind them.
 #[cycle(elements)]
 fn push_children<'a>(
-    meta: &str,
+    meta: &[u8],
     parent: &[u8],
-    rows: Rows<'a>,
+    rows: &Rows<'a>,
     out: &mut Vec<u8>,
-) -> Result<Rows<'a>, NoMemory> {
-    let mut rest = rows;
-    while let Some((row, others)) = split_rows(rest) {
+) -> Result<Rows<'a>, NoMemory>
+    ensures text { OnOk result (out.new.items
+        ≡ out.old.items ++ texts_of (children parent.now (placed meta.now (rows_in rows.now)))) }
+    ensures rest { IfOk result (λ rest. placed meta.now (rows_in rest)
+        ≡ behind parent.now (placed meta.now (rows_in rows.now))) }
+    ensures shorter { IfOk result (λ rest. length rest.fields.now ≤ length rows.now.fields.now) }
+{
+    let mut rest = *rows;
+    while let Some((row, others)) = split_rows(&rest) {
         if parent_path(row.field.path.bytes()) != parent {
             return Ok(rest);
         }
-        rest = push_field(meta, row, others, out)?;
+        rest = push_field(meta, &row, &others, out)?;
     }
     Ok(rest)
 }
@@ -48,13 +60,19 @@ fn push_children<'a>(
 /// Appends what stands inside a field's element, and gives the rows behind it.
 #[cycle(elements)]
 fn push_inside<'a>(
-    meta: &str,
-    row: Row,
-    others: Rows<'a>,
+    meta: &[u8],
+    row: &Row,
+    others: &Rows<'a>,
     out: &mut Vec<u8>,
-) -> Result<Rows<'a>, NoMemory> {
+) -> Result<Rows<'a>, NoMemory>
+    ensures text { OnOk result (out.new.items ≡ out.old.items ++ content (row_in row.now)
+        (texts_of (children row.now.field.now.path (placed meta.now (rows_in others.now))))) }
+    ensures rest { IfOk result (λ rest. placed meta.now (rows_in rest)
+        ≡ behind row.now.field.now.path (placed meta.now (rows_in others.now))) }
+    ensures shorter { IfOk result (λ rest. length rest.fields.now ≤ length others.now.fields.now) }
+{
     let path = row.field.path.bytes();
-    if row.field.kind == Kind::Group {
+    if is_group(row.field.kind) {
         push_children(meta, path, others, out)
     } else {
         push_content(row, out)?;
@@ -65,11 +83,17 @@ fn push_inside<'a>(
 /// Appends a field's element, and gives the rows behind it.
 #[cycle(elements)]
 fn push_field<'a>(
-    meta: &str,
-    row: Row,
-    others: Rows<'a>,
+    meta: &[u8],
+    row: &Row,
+    others: &Rows<'a>,
     out: &mut Vec<u8>,
-) -> Result<Rows<'a>, NoMemory> {
+) -> Result<Rows<'a>, NoMemory>
+    ensures text { OnOk result (out.new.items ≡ out.old.items ++ field_text meta.now (row_in row.now)
+        (texts_of (children row.now.field.now.path (placed meta.now (rows_in others.now))))) }
+    ensures rest { IfOk result (λ rest. placed meta.now (rows_in rest)
+        ≡ behind row.now.field.now.path (placed meta.now (rows_in others.now))) }
+    ensures shorter { IfOk result (λ rest. length rest.fields.now ≤ length others.now.fields.now) }
+{
     if !is_written(meta, row) {
         return Ok(past_children(row.field.path.bytes(), others));
     }
@@ -82,11 +106,18 @@ fn push_field<'a>(
 }
 
 /// Appends the elements of the fields outside `meta`.
-pub fn push_fields(alloc: Global, root: &Text, rows: Rows, out: &mut Vec<u8>) -> Result<(), NoMemory> {
+pub fn push_fields(
+    alloc: Global,
+    root: &Text,
+    rows: &Rows,
+    out: &mut Vec<u8>,
+) -> Result<(), NoMemory>
+    ensures { OnOk result (out.new.items ≡ out.old.items ++ fields_text root.now (rows_in rows.now)) }
+{
     let meta = meta_path(alloc, root, "")?;
-    let mut rest = rows;
-    while let Some((row, others)) = split_rows(rest) {
-        rest = push_field(meta.as_str(), row, others, out)?;
+    let mut rest = *rows;
+    while let Some((row, others)) = split_rows(&rest) {
+        rest = push_field(meta.as_bytes(), &row, &others, out)?;
     }
     Ok(())
 }

@@ -1,6 +1,6 @@
-ghost use Rattle.std.specs.Prelude.{◌≡◌, ◌++◌, ◌∷◌, [], ◌<◌, IfOk, IfSome, MatchOption, OnOk, find, length};
-ghost use Rattle.std.specs.Prelude.{option_map};
-ghost use Rattle.instance_doc.specs.Rows.{content, is_in_meta, last_name, meta_path, row_at};
+ghost use Rattle.std.specs.Prelude.{◌≡◌, ◌++◌, ◌∷◌, [], ◌<◌, IfOk, IfSome, MatchOption, OnOk, length, option_map};
+ghost use Rattle.std.specs.Prelude.{string_bytes};
+ghost use Rattle.instance_doc.specs.Rows.{content, is_group, last_name, meta_path, row_at};
 ghost use Rattle.instance_doc.specs.Views.{row_in, rows_in};
 
 use field_text::{NoMemory, Text};
@@ -25,9 +25,9 @@ pub struct Rows<'a> {
 }
 
 /// The first row, and those behind it.
-pub fn split_rows(rows: Rows) -> Option<(Row, Rows)>
-    ensures rows { MatchOption result (rows_in rows ≡ []) (λ x. rows_in rows ≡ row_in x.0 ∷ rows_in x.1) }
-    ensures shorter { IfSome result (λ x. length x.1.fields.now < length rows.fields.now) }
+pub fn split_rows<'a>(rows: &Rows<'a>) -> Option<(Row<'a>, Rows<'a>)>
+    ensures rows { MatchOption result (rows_in rows.now ≡ []) (λ x. rows_in rows.now ≡ row_in x.0 ∷ rows_in x.1) }
+    ensures shorter { IfSome result (λ x. length x.1.fields.now < length rows.now.fields.now) }
 {
     let (field, fields) = rows.fields.split_first()?;
     let (text, texts) = rows.texts.split_first()?;
@@ -60,7 +60,7 @@ pub fn last_name(path: &str) -> &str
 
 /// The path of what has this path in `meta`.
 pub fn meta_path(alloc: Global, root: &Text, path: &str) -> Result<String, NoMemory>
-    ensures { IfOk result (λ whole. whole ≡ meta_path root.now path.now) }
+    ensures { IfOk result (λ whole. string_bytes whole ≡ meta_path root.now path.now) }
 {
     let mut whole = String::from_str(alloc, "/")?;
     whole.push_str(root.as_str())?;
@@ -70,11 +70,11 @@ pub fn meta_path(alloc: Global, root: &Text, path: &str) -> Result<String, NoMem
 }
 
 /// The first row of a path.
-pub fn row_at<'a>(path: &[u8], rows: Rows<'a>) -> Option<Row<'a>>
-    ensures { option_map row_in result ≡ row_at path.now (rows_in rows) }
+pub fn row_at<'a>(path: &[u8], rows: &Rows<'a>) -> Option<Row<'a>>
+    ensures { option_map row_in result ≡ row_at path.now (rows_in rows.now) }
 {
-    let mut rest = rows;
-    while let Some((row, behind)) = split_rows(rest) {
+    let mut rest = *rows;
+    while let Some((row, behind)) = split_rows(&rest) {
         if row.field.path.bytes() == path {
             return Some(row);
         }
@@ -83,12 +83,21 @@ pub fn row_at<'a>(path: &[u8], rows: Rows<'a>) -> Option<Row<'a>>
     None
 }
 
-/// Appends the text of a field that isn't a group.
-pub fn push_content(row: Row, out: &mut Vec<u8>) -> Result<(), NoMemory>
-    ensures { OnOk result (out.new.items ≡ out.old.items ++ content (row_in row) []) }
+pub fn is_group(kind: Kind) -> bool
+    ensures { result ≡ is_group kind }
 {
-    match row.field.kind {
-        Kind::Group => Ok(()),
-        _ => write_text(row.text, out),
+    match kind {
+        Kind::Group => true,
+        Kind::Words | Kind::Whole | Kind::One | Kind::Many | Kind::Plain => false,
     }
+}
+
+/// Appends the text of a field; a group has none.
+pub fn push_content(row: &Row, out: &mut Vec<u8>) -> Result<(), NoMemory>
+    ensures { OnOk result (out.new.items ≡ out.old.items ++ content (row_in row.now) []) }
+{
+    if is_group(row.field.kind) {
+        return Ok(());
+    }
+    write_text(row.text, out)
 }

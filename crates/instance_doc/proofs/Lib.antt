@@ -1,0 +1,4 @@
+pub mod MarkupLemmas
+pub mod RowLemmas
+pub mod ElementLemmas
+pub mod ReturnLemmas

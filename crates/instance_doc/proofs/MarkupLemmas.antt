@@ -1,0 +1,54 @@
+-- What is appended one by one, and elements round what stands inside.
+use Rattle.std.proofs.Common.{◌≡◌, ℕ, ◌<◌, ◌≤◌, ◌-◌, ◌+◌, List, [], ◌∷◌, ◌++◌, codes, length, take, refl, sym, ap, ◌∙◌, append_assoc, arith}
+use Rattle.std.proofs.Math.Utf8.{encode}
+use Rattle.std.proofs.lemmas.List.{append-nil, length-append, take-append-le, take_all}
+use Rattle.instance_doc.specs.Markup.{element, end_tag, in_utf8, start_tag}
+
+pub grown : (out new a rest : List ℕ) → new ≡ out ++ a → new ++ rest ≡ out ++ (a ++ rest)
+grown out new a rest h = ap (λ (x : List ℕ). x ++ rest) h ∙ append_assoc out a rest
+
+pub two_appended : (out first second a b : List ℕ) → first ≡ out ++ a → second ≡ first ++ b → second ≡ out ++ (a ++ b)
+two_appended out first second a b h k = k ∙ grown out first a b h
+
+pub three_appended : (out first second third a b c : List ℕ) → first ≡ out ++ a → second ≡ first ++ b → third ≡ second ++ c
+    → third ≡ out ++ (a ++ (b ++ c))
+three_appended out first second third a b c h k l = l ∙ (grown first second b c k ∙ grown out first a (b ++ c) h)
+
+-- where more stands than the start tag, something stands inside
+pub ended : (name before content out new : List ℕ) → out ≡ before ++ (start_tag name ++ content) → length (before ++ start_tag name) < length out
+    → new ≡ out ++ end_tag name → new ≡ before ++ element name content
+ended name before [] out new h more k =
+    absurd (let e : out ≡ before ++ start_tag name = h ∙ ap (λ (x : List ℕ). before ++ x) (append-nil (start_tag name)) in
+    let same : length out ≡ length (before ++ start_tag name) = ap length e in omega (arith, more, same))
+ended name before (b ∷ bs) out new h more k =
+    let start = start_tag name in
+    let end = end_tag name in
+    k ∙ (ap (λ (x : List ℕ). x ++ end) h ∙ (append_assoc before (start ++ (b ∷ bs)) end
+    ∙ ap (λ (x : List ℕ). before ++ x) (append_assoc start (b ∷ bs) end)))
+
+-- a start tag without its `>`
+abbrev front : List ℕ → List ℕ
+front name = 60 ∷ in_utf8 name
+
+start_is : (name : List ℕ) → start_tag name ≡ front name ++ (62 ∷ [])
+unfolding encode
+start_is name = refl
+
+all_but_last : (xs : List ℕ) (x : ℕ) → take (length (xs ++ (x ∷ [])) - 1) (xs ++ (x ∷ [])) ≡ xs
+all_but_last xs x =
+    let n : length (xs ++ (x ∷ [])) - 1 ≡ length xs = omega (arith, length-append xs (x ∷ [])) in
+    ap (λ (k : ℕ). take k (xs ++ (x ∷ []))) n ∙ (take-append-le (length xs) xs (x ∷ []) (omega arith) ∙ take_all (length xs) xs (omega arith))
+
+-- where no more stands, it becomes the one tag
+pub emptied : (name before content out popped new : List ℕ) → out ≡ before ++ (start_tag name ++ content) → length out ≤ length (before ++ start_tag name)
+    → popped ≡ take (length out - 1) out → new ≡ popped ++ codes "/>" → new ≡ before ++ element name content
+unfolding encode
+emptied name before [] out popped new h low k l =
+    let e : out ≡ (before ++ front name) ++ (62 ∷ []) =
+    h ∙ (ap (λ (x : List ℕ). before ++ x) (append-nil (start_tag name) ∙ start_is name) ∙ sym (append_assoc before (front name) (62 ∷ []))) in
+    let left : popped ≡ before ++ front name = k ∙ (ap (λ (x : List ℕ). take (length x - 1) x) e ∙ all_but_last (before ++ front name) 62) in
+    l ∙ grown before popped (front name) (codes "/>") left
+emptied name before (b ∷ bs) out popped new h low k l =
+    absurd (let e : length out ≡ length (before ++ start_tag name) + length (b ∷ bs) =
+    ap length h ∙ (ap length (sym (append_assoc before (start_tag name) (b ∷ bs))) ∙ length-append (before ++ start_tag name) (b ∷ bs)) in
+    let some : length (b ∷ bs) ≡ length bs + 1 = omega arith in omega (arith, low, e, some))
