@@ -1,4 +1,3 @@
 pub mod MarkupLemmas
 pub mod RowLemmas
-pub mod ElementLemmas
 pub mod ReturnLemmas

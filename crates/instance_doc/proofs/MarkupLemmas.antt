@@ -1,30 +1,11 @@
--- What is appended one by one, and elements round what stands inside.
-use Rattle.std.proofs.Common.{◌≡◌, ℕ, ◌<◌, ◌≤◌, ◌-◌, ◌+◌, List, [], ◌∷◌, ◌++◌, codes, length, take, refl, sym, ap, ◌∙◌, append_assoc, arith}
+-- An element without anything inside becomes one tag.
+use Rattle.std.proofs.Common.{◌≡◌, ℕ, ◌≤◌, ◌-◌, ◌+◌, List, [], ◌∷◌, ◌++◌, codes, length, take, refl, sym, ap, ◌∙◌, append_assoc, arith}
 use Rattle.std.proofs.Math.Utf8.{encode}
 use Rattle.std.proofs.lemmas.List.{append-nil, length-append, take-append-le, take_all}
-use Rattle.instance_doc.specs.Markup.{element, end_tag, in_utf8, start_tag}
+use Rattle.instance_doc.specs.Markup.{element, in_utf8, start_tag}
 
-pub grown : (out new a rest : List ℕ) → new ≡ out ++ a → new ++ rest ≡ out ++ (a ++ rest)
+grown : (out new a rest : List ℕ) → new ≡ out ++ a → new ++ rest ≡ out ++ (a ++ rest)
 grown out new a rest h = ap (λ (x : List ℕ). x ++ rest) h ∙ append_assoc out a rest
-
-pub two_appended : (out first second a b : List ℕ) → first ≡ out ++ a → second ≡ first ++ b → second ≡ out ++ (a ++ b)
-two_appended out first second a b h k = k ∙ grown out first a b h
-
-pub three_appended : (out first second third a b c : List ℕ) → first ≡ out ++ a → second ≡ first ++ b → third ≡ second ++ c
-    → third ≡ out ++ (a ++ (b ++ c))
-three_appended out first second third a b c h k l = l ∙ (grown first second b c k ∙ grown out first a (b ++ c) h)
-
--- where more stands than the start tag, something stands inside
-pub ended : (name before content out new : List ℕ) → out ≡ before ++ (start_tag name ++ content) → length (before ++ start_tag name) < length out
-    → new ≡ out ++ end_tag name → new ≡ before ++ element name content
-ended name before [] out new h more k =
-    absurd (let e : out ≡ before ++ start_tag name = h ∙ ap (λ (x : List ℕ). before ++ x) (append-nil (start_tag name)) in
-    let same : length out ≡ length (before ++ start_tag name) = ap length e in omega (arith, more, same))
-ended name before (b ∷ bs) out new h more k =
-    let start = start_tag name in
-    let end = end_tag name in
-    k ∙ (ap (λ (x : List ℕ). x ++ end) h ∙ (append_assoc before (start ++ (b ∷ bs)) end
-    ∙ ap (λ (x : List ℕ). before ++ x) (append_assoc start (b ∷ bs) end)))
 
 -- a start tag without its `>`
 abbrev front : List ℕ → List ℕ
