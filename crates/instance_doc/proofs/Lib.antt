@@ -1,3 +1,9 @@
 pub mod MarkupLemmas
 pub mod RowLemmas
 pub mod ReturnLemmas
+pub mod Given
+pub mod Tags
+pub mod Levels
+pub mod Parts
+pub mod MetaWritten
+pub mod DocumentWritten

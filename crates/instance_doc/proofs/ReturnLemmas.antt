@@ -1,5 +1,5 @@
 -- The document of an instance has no carriage return.
-use Rattle.std.proofs.Common.{◌≡◌, ℕ, ◌≤◌, ◌<◌, ◌+◌, ◌/◌, ◌%◌, ◌==◌, ◌&&◌, ◌||◌, not, Bool, true, false, cond, List, [], ◌∷◌, ◌++◌, Option, Some, None, Result, Ok, Err, IfOk, codes, length, nat_lt, refl, sym, ap, subst, ◌∙◌, inl, inr, arith, encode_utf8_all, ltb}
+use Rattle.std.proofs.Common.{◌≡◌, ℕ, ◌≤◌, ◌<◌, ◌+◌, ◌/◌, ◌%◌, ◌==◌, ◌&&◌, ◌||◌, not, Bool, true, false, cond, List, [], ◌∷◌, ◌++◌, Option, Some, None, codes, refl, sym, ap, subst, ◌∙◌, inl, inr, arith, encode_utf8_all, ltb}
 use Rattle.std.specs.Char.{encode_utf8}
 use Rattle.std.specs.List.{flat_map, list_all}
 use Rattle.std.specs.Option.{option_map_or}
@@ -14,14 +14,11 @@ use Rattle.form_def.specs.declared.form.FormDef.{FormDef}
 use Rattle.form_def.specs.Fields.{have_paths}
 use Rattle.form_def.specs.Paths.{are_below, are_names, is_attribute, is_name, is_path, parts_of}
 use Rattle.rosa_doc.specs.Escapes.{in_text, in_value}
-use Rattle.field_text.specs.Steps.{Gives}
-use Rattle.instance_doc.specs.declared.fault.DocFault.{DocFault}
-use Rattle.instance_doc.specs.declared.fault.DocFault.TheVariants.{TooLong}
 use Rattle.instance_doc.specs.declared.meta.Meta.{Meta}
 use Rattle.instance_doc.specs.Markup.{attribute, element, end_tag, escaped, in_utf8, quoted, start_tag}
 use Rattle.instance_doc.specs.Rows.{Row, content, is_group, last_name, last_part, meta_path, row_at, rows_of}
 use Rattle.instance_doc.specs.Elements.{Placed, behind, children, field_text, fields_text, is_right_below, is_written, placed, texts_of, with_field}
-use Rattle.instance_doc.specs.Documents.{action_attributes, declaration, deprecated_text, doc_of, document, entity_attribute, entity_attributes, entity_tag, entity_text, document_limit, fault_of, ids_text, label_content, label_text, limited, meta_content, meta_text, name_element, name_text, namespaces, root_attributes, root_content, root_name, root_tag, root_text, version_attributes}
+use Rattle.instance_doc.specs.Documents.{action_attributes, declaration, deprecated_text, doc_of, document, entity_attribute, entity_attributes, entity_tag, entity_text, ids_text, label_content, label_text, meta_content, meta_text, name_element, name_text, namespaces, root_attributes, root_content, root_name, root_tag, root_text, version_attributes}
 use Rattle.instance_doc.specs.Returns.{lacks_return}
 
 abbrev is_other : ℕ → Bool
@@ -349,13 +346,3 @@ document_lacks_return form texts shown meta =
     both declaration (root_text form rows meta) clear_declaration
     (both (root_tag form) (root_content form rows meta ++ end_tag form.root) (clear_root_tag form)
     (both (root_content form rows meta) (end_tag form.root) content (in_end form.root (in_name form.root form.root_named))))
-
--- what is given is the document
-given : (b : Bool) (document blob : List ℕ) (fault : DocFault) → ◌≡◌ {A = Result (List ℕ) DocFault} (cond b (Err fault) (Ok document)) (Ok blob) → document ≡ blob
-given true document blob fault e = absurd cc
-given false document blob fault e = cc
-
-pub given_lacks_return : (r : Result (List ℕ) DocFault) (document : List ℕ) → Gives fault_of (λ b. b) r (limited document) → lacks_return document ≡ true
-    → IfOk r (λ blob. lacks_return blob ≡ true)
-given_lacks_return (Ok blob) document h clear = subst (λ (x : List ℕ). lacks_return x ≡ true) (given (nat_lt document_limit (length document)) document blob (TooLong (length document)) h) clear
-given_lacks_return (Err fault) document h clear = tt

@@ -5,3 +5,4 @@ pub mod Elements
 pub mod Documents
 pub mod Returns
 pub mod Instances
+pub mod ReadBack

@@ -2,6 +2,8 @@ ghost use Rattle.std.specs.Prelude.{◌≡◌, ◌++◌, IfOk, OnOk, true};
 ghost use Rattle.field_text.specs.Steps.{Gives};
 ghost use Rattle.instance_doc.specs.Documents.{declaration, doc_of, document, fault_of, limited};
 ghost use Rattle.instance_doc.specs.Documents.{namespaces, root_attributes, root_content, root_name, root_tag, root_text};
+ghost use Rattle.instance_doc.specs.Instances.{ReadsAs};
+ghost use Rattle.instance_doc.specs.ReadBack.{given, reads_back};
 ghost use Rattle.instance_doc.specs.Returns.{lacks_return};
 ghost use Rattle.instance_doc.specs.Views.{rows_in};
 
@@ -119,6 +121,8 @@ pub fn doc_bytes(
 ) -> Result<Blob, DocFault>
     ensures document { Gives fault_of (λ blob. blob) result (limited (doc_of form.now texts.now shown.now meta.now)) }
     ensures no_return { IfOk result (λ blob. lacks_return blob ≡ true) }
+    ensures read_back { IfOk result (λ blob. reads_back form.now texts.now shown.now meta.now ≡ true
+        → ReadsAs blob (given form.now meta.now)) }
 {
     let rows = Rows {
         fields: form.fields.as_slice(),
