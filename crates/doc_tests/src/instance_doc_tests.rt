@@ -5,7 +5,8 @@ use instance_doc::*;
 use std::alloc::Global;
 use std::test::Fail;
 
-static FORM: &str = "<h><head><model><instance><d id='f' version='2'><g><a/><b/></g><c/><k><e/></k><meta>\
+static FORM: &str =
+    "<h><head><model><instance><d id='f' version='2'><g><a/><b/></g><c/><k><e/></k><meta>\
         <instanceName/><entity dataset='t' id='' create='1'><label/></entity></meta></d></instance></model></head>\
         <body/></h>";
 
@@ -23,13 +24,15 @@ static FIELDS: [(&str, bool); 10] = [
     ("", true),
 ];
 
-static DOCUMENT: &str = "<?xml version=\"1.0\" encoding=\"UTF-8\"?><d xmlns:orx=\"http://openrosa.org/xforms\" \
+static DOCUMENT: &str =
+    "<?xml version=\"1.0\" encoding=\"UTF-8\"?><d xmlns:orx=\"http://openrosa.org/xforms\" \
         xmlns:entities=\"http://www.opendatakit.org/xforms/entities\" id=\"f\" version=\"2\"><g><a>x&lt;&#13;&amp;\
         </a><b/></g><c/><k/><orx:meta><orx:instanceID>uuid:1</orx:instanceID><orx:deprecatedID>uuid:0\
         </orx:deprecatedID><orx:instanceName>N</orx:instanceName><entities:entity dataset=\"t\" id=\"i&quot;\" \
         create=\"1\"><entities:label/></entities:entity></orx:meta></d>";
 
-static OTHER: &str = "<d version='1'><meta><deprecatedID/></meta><meta><instanceID>b</instanceID></meta></d>";
+static OTHER: &str =
+    "<d version='1'><meta><deprecatedID/></meta><meta><instanceID>b</instanceID></meta></d>";
 
 fn form_of(alloc: Global, text: &str) -> Result<FormDef, Fail> {
     Ok(read_form(alloc, text.as_bytes())?)
@@ -66,13 +69,7 @@ fn a_document_is_written(rt: HostRuntime) -> Result<(), Fail> {
         instance_id: text_of(rt.alloc(), "uuid:1")?,
         deprecated: Some(text_of(rt.alloc(), "uuid:0")?),
     };
-    let document = written(
-        rt.alloc(),
-        &form,
-        texts.as_slice(),
-        shown.as_slice(),
-        &meta,
-    )?;
+    let document = written(rt.alloc(), &form, texts.as_slice(), shown.as_slice(), &meta)?;
     assert!(rt; document.bytes() == DOCUMENT.as_bytes());
     Ok(())
 }

@@ -292,9 +292,8 @@ document_reads form texts shown meta h =
     let paths = rows_have_paths form.root form.fields texts shown form.paths_named in
     let w = placed_parts form.root path rows paths right.0 in
     let nodes = nodes_of path ps w in
-    let root = root_element form (nodes ++ (Child (meta_element form rows meta) ∷ [])) in
-    (
+    let root = root_element form (nodes ++ (Child (meta_element form rows meta) ∷ [])) in (
       record { root = root },
       document_is form rows meta root (root_written form rows meta w a.0 paths) (leb-true (length (doc_of form texts shown meta)) document_limit c.1),
-      sym (read_is form rows meta nodes (parts_other path ps w right.1) b.1)
+      sym (read_is form rows meta nodes (parts_other path ps w right.1) b.1),
     )

@@ -39,10 +39,10 @@ above path ys zs parts none =
     let long : length path ≡ end + (1 + length zs) = let all : length path ≡ end + length (47 ∷ zs) = ap length parts ∙ length-append ys (47 ∷ zs) in omega (arith, all) in
     let here : get_or path end 0 ≡ 47 = ap (λ (l : List ℕ). get_or l end 0) parts ∙ grind (arith, common_steps) in
     let behind : (k : ℕ) → end < k → k < length path → get_or path k 0 ≢ 47 = λ k low high e.
-        no_slash_at zs none (k - (end + 1)) (omega (arith, low, high, long))
-        (sym (ap (λ (l : List ℕ). get_or l k 0) parts ∙ (get_or-append_right ys (47 ∷ zs) end k 0 refl (omega (arith, low)) ∙ past_one zs (k - end) (k - (end + 1)) (omega (arith, low)))) ∙ e) in
+    no_slash_at zs none (k - (end + 1)) (omega (arith, low, high, long))
+    (sym (ap (λ (l : List ℕ). get_or l k 0) parts ∙ (get_or-append_right ys (47 ∷ zs) end k 0 refl (omega (arith, low)) ∙ past_one zs (k - end) (k - (end + 1)) (omega (arith, low)))) ∙ e) in
     let same : parent_path path ≡ ys =
-        sym (parent_path-at path end (omega (arith, long)) here behind) ∙ (ap (take end) parts ∙ (take-append-le end ys (47 ∷ zs) (omega arith) ∙ take_all end ys (omega arith))) in
+    sym (parent_path-at path end (omega (arith, long)) here behind) ∙ (ap (take end) parts ∙ (take-append-le end ys (47 ∷ zs) (omega arith) ∙ take_all end ys (omega arith))) in
     let one : names (47 ∷ zs) ≡ 1 + names zs = first_name 47 zs in
     let n : names (parent_path path) ≡ names ys = ap names same in
     let all : names path ≡ names ys + names (47 ∷ zs) = ap names parts ∙ sum_by-append one_if ys (47 ∷ zs) in

@@ -150,10 +150,10 @@ children_deep root parent n (p ∷ ps) h low =
     elim (is_right_below parent p) as (λ b. is_right_below parent p ≡ b → Deep n (cond b (p ∷ children parent ps) [])) [
       | true ↦ λ e. (
         let two = names_of_path root p.path both.0 in
-        let one = names_above p.path (omega (arith, two)) in
-        let same : names (parent_path p.path) ≡ names parent = ap names ((bytes_eq-Decides (parent_path p.path) parent).0 e) in
-        omega (arith, low, one, same),
-        children_deep root parent n ps both.1 low
+            let one = names_above p.path (omega (arith, two)) in
+            let same : names (parent_path p.path) ≡ names parent = ap names ((bytes_eq-Decides (parent_path p.path) parent).0 e) in
+            omega (arith, low, one, same),
+        children_deep root parent n ps both.1 low,
       )
       | false ↦ λ e. tt
     ] refl
@@ -290,8 +290,7 @@ placed_parts root meta (r ∷ rows) h right =
     let others = placed meta rows in
     let w = placed_parts root meta rows paths.1 rights.1 in
     let inner = children path others in
-    let deep = children_deep root path (names path + 1) others (placed_named root meta rows paths.1) (omega arith) in
-    (
+    let deep = children_deep root path (names path + 1) others (placed_named root meta rows paths.1) (omega arith) in (
       field_part meta r (texts_of inner) rights.0 (filled meta r (names path) inner (children_parts meta path others w) deep),
-      behind_parts meta path others w
+      behind_parts meta path others w,
     )

@@ -81,7 +81,7 @@ attribute_is n name value is =
       spelled = 32 ∷ (is.spelled ++ (61 ∷ written));
       is = (32 ∷ [], is.spelled, [], [], written, refl, (λ (e : 32 ∷ [] ≡ []). absurd cc), is.is, refl, refl, v.value, refl);
       utf8 = ap (λ (x : List ℕ). 32 ∷ x) (encodes-append is.spelled (61 ∷ written)
-      ∙ (ap (λ (x : List ℕ). x ++ encode_utf8_all (61 ∷ written)) is.utf8 ∙ ap (λ (x : List ℕ). in_utf8 name ++ (61 ∷ (34 ∷ x))) inside));
+          ∙ (ap (λ (x : List ℕ). x ++ encode_utf8_all (61 ∷ written)) is.utf8 ∙ ap (λ (x : List ℕ). in_utf8 name ++ (61 ∷ (34 ∷ x))) inside));
       are_scalars = scalars-append is.spelled (61 ∷ written) is.are_scalars (value_is_scalars (kept_text value) written v.value);
     }
 

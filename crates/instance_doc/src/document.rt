@@ -85,12 +85,7 @@ fn push_root(
     push_end(form.root.as_str(), out)
 }
 
-fn document(
-    alloc: Global,
-    form: &FormDef,
-    rows: &Rows,
-    meta: &Meta,
-) -> Result<Vec<u8>, NoMemory>
+fn document(alloc: Global, form: &FormDef, rows: &Rows, meta: &Meta) -> Result<Vec<u8>, NoMemory>
     ensures { IfOk result (λ bytes. bytes.items ≡ document form.now (rows_in rows.now) meta.now) }
 {
     let mut out = Vec::new(alloc);

@@ -43,12 +43,7 @@ fn push_name_element(row: &Row, out: &mut Vec<u8>) -> Result<(), NoMemory>
     close_element("orx:instanceName", inside, out)
 }
 
-fn push_name_of(
-    alloc: Global,
-    root: &Text,
-    rows: &Rows,
-    out: &mut Vec<u8>,
-) -> Result<(), NoMemory>
+fn push_name_of(alloc: Global, root: &Text, rows: &Rows, out: &mut Vec<u8>) -> Result<(), NoMemory>
     ensures { OnOk result (out.new.items ≡ out.old.items ++ name_text root.now (rows_in rows.now)) }
 {
     let path = meta_path(alloc, root, "instanceName")?;
