@@ -1,9 +1,9 @@
 -- The document of an instance is read back as what was given.
-use Rattle.std.proofs.Common.{◌≡◌, ℕ, ◌<◌, ◌≤◌, ◌+◌, ◌&&◌, not, nat_le, Bool, true, false, cond, List, [], ◌∷◌, ◌++◌, Option, Some, None, codes, refl, sym, ap, subst, ◌∙◌, arith, append_assoc, encode_utf8_all, map, length}
+use Rattle.std.proofs.Common.{◌≡◌, ℕ, ◌≤◌, ◌&&◌, nat_le, Bool, true, false, cond, List, [], ◌∷◌, ◌++◌, Option, Some, None, codes, refl, sym, ap, subst, ◌∙◌, arith, append_assoc, encode_utf8_all, map, length}
 use Rattle.std.specs.Prelude.{option_map, option_and_then, unwrap_or}
 use Rattle.std.specs.List.{list_all}
 use Rattle.std.specs.Option.{option_map_or}
-use Rattle.std.specs.Str.{bytes_eq, chars, is_utf8}
+use Rattle.std.specs.Str.{chars, is_utf8}
 use Rattle.std.proofs.Math.Utf8.{encode, scalars}
 use Rattle.std.proofs.lemmas.Bool.{and_parts, leb-true}
 use Rattle.std.proofs.lemmas.List.{append-nil}
@@ -37,13 +37,14 @@ use Rattle.instance_doc.specs.declared.instance.Read.{Read}
 use Rattle.instance_doc.specs.declared.meta.Meta.{Meta}
 use Rattle.instance_doc.specs.Markup.{attribute, end_tag, in_utf8}
 use Rattle.instance_doc.specs.Rows.{Row, meta_path, rows_of}
-use Rattle.instance_doc.specs.Elements.{fields_text, placed, texts_of}
-use Rattle.instance_doc.specs.Documents.{declaration, doc_of, document, document_limit, meta_text, namespaces, root_attributes, root_content, root_name, root_tag, root_text}
+use Rattle.instance_doc.specs.Elements.{field_text, fields_text, placed}
+use Rattle.instance_doc.specs.Documents.{declaration, doc_of, document, document_limit, meta_text, namespaces, root_content, root_tag, root_text}
 use Rattle.instance_doc.specs.Instances.{ReadsAs, read_of, text_in_meta}
+use Rattle.instance_doc.specs.Trees.{HasFields, field_nodes, fields_nodes, kept_text}
 use Rattle.instance_doc.specs.ReadBack.{are_kept, are_right, given, is_kept, is_no_meta, is_right, reads_back}
-use Rattle.instance_doc.proofs.Tags.{AttributesAre, NameIs, attribute_is, end_written, kept_text, no_attributes, own, own_name, start_written, tag, with_attribute, with_content}
-use Rattle.instance_doc.proofs.Parts.{Parts, first_child, has_path, nodes_of, outermost_deep, parts_other, parts_written, placed_named, placed_parts, skipped}
-use Rattle.instance_doc.proofs.MetaWritten.{alone, deprecated_element, deprecated_found, deprecated_read, id_element, instance_id_read, meta_element, meta_nodes, meta_written}
+use Rattle.instance_doc.proofs.Tags.{AttributesAre, NameIs, attribute_is, end_written, no_attributes, own, own_name, start_written, tag, with_attribute}
+use Rattle.instance_doc.proofs.Parts.{Parts, first_child, has_path, outermost_deep, parts_other, parts_written, placed_named, placed_parts, skipped}
+use Rattle.instance_doc.proofs.MetaWritten.{alone, deprecated_found, deprecated_read, instance_id_read, meta_element, meta_nodes, meta_written}
 
 -- ---- the root's tag
 
@@ -124,14 +125,15 @@ root_tag_of form = tag (own form.root) (root_attribute_list form)
 abbrev root_element : FormDef → List Node → Element
 root_element form nodes = element_of (root_tag_of form) (with_words nodes [])
 
-root_written : (form : FormDef) (rows : List Row) (meta : Meta) (w : Parts (meta_path form.root []) (placed (meta_path form.root []) rows))
-    → spells_local_name form.root ≡ true → list_all (has_path form.root) rows ≡ true
-    → Written Before (After (root_element form (nodes_of (meta_path form.root []) (placed (meta_path form.root []) rows) w ++ (Child (meta_element form rows meta) ∷ [])))) (root_text form rows meta)
-root_written form rows meta w name paths =
+root_written : (form : FormDef) (rows : List Row) (meta : Meta) → spells_local_name form.root ≡ true → list_all (has_path form.root) rows ≡ true
+    → Parts (meta_path form.root []) (placed (field_text (meta_path form.root [])) rows) (placed (field_nodes (meta_path form.root [])) rows)
+    → Written Before (After (root_element form (fields_nodes form.root rows ++ (Child (meta_element form rows meta) ∷ [])))) (root_text form rows meta)
+root_written form rows meta name paths w =
     let path = meta_path form.root [] in
-    let ps = placed path rows in
+    let ps = placed (field_text path) rows in
+    let qs = placed (field_nodes path) rows in
     let t = root_tag_of form in
-    let nodes = nodes_of path ps w in
+    let nodes = fields_nodes form.root rows in
     let all = nodes ++ (Child (meta_element form rows meta) ∷ []) in
     let is = own_name form.root name in
     let s1 = Within (opened t) [] in
@@ -144,7 +146,7 @@ root_written form rows meta w name paths =
     written_then Before s1 s4 (root_tag form) (root_content form rows meta ++ end_tag form.root) start
     (written_then s1 s3 s4 (root_content form rows meta) (end_tag form.root)
     (written_then s1 s2 s3 (fields_text form.root rows) (meta_text form rows meta)
-    (parts_written path ps w t [] [] (outermost_deep form.root ps (placed_named form.root path rows paths)))
+    (parts_written path ps qs w t [] [] (outermost_deep form.root ps (placed_named form.root path rows paths)))
     (meta_written form rows meta t nodes))
     (end_written s3 s4 (own form.root) form.root is ended))
 
@@ -279,21 +281,56 @@ rows_have_paths root (f ∷ fields) (text ∷ texts) (is_shown ∷ shown) h =
     let both = and_parts (is_path root f.path) (have_paths root fields) h in
     ap (λ (b : Bool). b && list_all (has_path root) (rows_of fields texts shown)) both.0 ∙ rows_have_paths root fields texts shown both.1
 
-pub document_reads : (form : FormDef) (texts : List (List ℕ)) (shown : List Bool) (meta : Meta) → reads_back form texts shown meta ≡ true
-    → ReadsAs (doc_of form texts shown meta) (given form meta)
-document_reads form texts shown meta h =
+-- the document of these rows, which reads so
+record Reads (form : FormDef) (rows : List Row) (meta : Meta) : Type 0 where
+  document_is : IsDoc (document form rows meta) (record { root = root_element form (fields_nodes form.root rows ++ (Child (meta_element form rows meta) ∷ [])) })
+  given_is : read_of (root_element form (fields_nodes form.root rows ++ (Child (meta_element form rows meta) ∷ []))) ≡ given form meta
+
+reads_so : (form : FormDef) (texts : List (List ℕ)) (shown : List Bool) (meta : Meta) → reads_back form texts shown meta ≡ true
+    → Reads form (rows_of form.fields texts shown) meta
+reads_so form texts shown meta h =
     let rows = rows_of form.fields texts shown in
     let path = meta_path form.root [] in
-    let ps = placed path rows in
+    let ps = placed (field_text path) rows in
+    let qs = placed (field_nodes path) rows in
     let c = and_parts _ (nat_le (length (doc_of form texts shown meta)) document_limit) h in
     let b = and_parts _ (are_kept form meta) c.0 in
     let a = and_parts (spells_local_name form.root) (are_right path rows) b.0 in
     let right = and_parts (list_all (is_right path) rows) (list_all (is_no_meta path) ps) a.1 in
     let paths = rows_have_paths form.root form.fields texts shown form.paths_named in
     let w = placed_parts form.root path rows paths right.0 in
-    let nodes = nodes_of path ps w in
-    let root = root_element form (nodes ++ (Child (meta_element form rows meta) ∷ [])) in (
-      record { root = root },
-      document_is form rows meta root (root_written form rows meta w a.0 paths) (leb-true (length (doc_of form texts shown meta)) document_limit c.1),
-      sym (read_is form rows meta nodes (parts_other path ps w right.1) b.1),
-    )
+    let nodes = fields_nodes form.root rows in
+    let root = root_element form (nodes ++ (Child (meta_element form rows meta) ∷ [])) in
+    record {
+      document_is = document_is form rows meta root (root_written form rows meta a.0 paths w)
+          (leb-true (length (doc_of form texts shown meta)) document_limit c.1);
+      given_is = read_is form rows meta nodes (parts_other path ps qs w right.1) b.1;
+    }
+
+pub document_reads : (form : FormDef) (texts : List (List ℕ)) (shown : List Bool) (meta : Meta) → reads_back form texts shown meta ≡ true
+    → ReadsAs (doc_of form texts shown meta) (given form meta)
+document_reads form texts shown meta h =
+    let rows = rows_of form.fields texts shown in
+    let reads = reads_so form texts shown meta h in
+    let root = root_element form (fields_nodes form.root rows ++ (Child (meta_element form rows meta) ∷ [])) in
+    (record { root = root }, reads.document_is, sym reads.given_is)
+
+root_children : (form : FormDef) (nodes : List Node) → (root_element form nodes).children ≡ nodes
+root_children form nodes = refl
+
+meta_named : (form : FormDef) (rows : List Row) (meta : Meta) → (meta_element form rows meta).name ≡ codes "meta"
+meta_named form rows meta = refl
+
+pub document_has_fields : (form : FormDef) (texts : List (List ℕ)) (shown : List Bool) (meta : Meta) → reads_back form texts shown meta ≡ true
+    → HasFields (doc_of form texts shown meta) form.root (rows_of form.fields texts shown)
+document_has_fields form texts shown meta h =
+    let rows = rows_of form.fields texts shown in
+    let reads = reads_so form texts shown meta h in
+    let all = fields_nodes form.root rows ++ (Child (meta_element form rows meta) ∷ []) in
+    record {
+      doc = record { root = root_element form all };
+      document = reads.document_is;
+      meta = meta_element form rows meta;
+      named = meta_named form rows meta;
+      fields = root_children form all;
+    }

@@ -1,12 +1,12 @@
 -- How many names a path has: one more than the path above it.
-use Rattle.std.proofs.Common.{◌≡◌, ◌≢◌, ℕ, zero, suc, ◌+◌, ◌-◌, ◌<◌, ◌≤◌, ◌&&◌, ◌==◌, Bool, true, false, cond, List, [], ◌∷◌, ◌++◌, refl, sym, ap, subst, ◌∙◌, inl, inr, ◌⊎◌, arith, length, take, get_or, count_by}
+use Rattle.std.proofs.Common.{◌≡◌, ◌≢◌, ℕ, zero, suc, ◌+◌, ◌-◌, ◌<◌, ◌≤◌, Bool, true, false, cond, List, [], ◌∷◌, ◌++◌, refl, sym, ap, ◌∙◌, inl, inr, ◌⊎◌, arith, length, take, get_or}
 use Rattle.std.specs.Str.{bytes_eq}
 use Rattle.std.proofs.lemmas.Bool.{and_parts, eqb-true}
 use Rattle.std.proofs.lemmas.Grind.{common_steps}
-use Rattle.std.proofs.lemmas.List.{length-append, take-append-le, take_all, get_or-append_right, get_or_read}
+use Rattle.std.proofs.lemmas.List.{length-append, take-append-le, take_all, get_or-append_right}
 use Rattle.std.proofs.lemmas.List.Splits.{length-slice_split}
 use Rattle.std.proofs.lemmas.List.Sums.{sum_by-append, sum_by-cons}
-use Rattle.form_def.specs.Paths.{are_below, are_names, is_path, is_slash, parent_path, parts_of}
+use Rattle.form_def.specs.Paths.{are_below, is_path, is_slash, parent_path, parts_of}
 use Rattle.form_def.proofs.PathLemmas.{parent_path-at}
 use Rattle.instance_doc.specs.ReadBack.{names}
 

@@ -1,8 +1,8 @@
 -- What stands in `meta` as it is written, followed by the steps of the reader.
-use Rattle.std.proofs.Common.{◌≡◌, ℕ, ◌<◌, ◌≤◌, ◌+◌, ◌&&◌, ◌||◌, not, Bool, true, false, cond, List, [], ◌∷◌, ◌++◌, Option, Some, None, codes, refl, sym, ap, subst, ◌∙◌, arith, append_assoc, length}
+use Rattle.std.proofs.Common.{◌≡◌, ℕ, ◌<◌, ◌||◌, not, Bool, true, false, cond, List, [], ◌∷◌, ◌++◌, Option, Some, None, codes, refl, sym, ap, subst, ◌∙◌, arith, append_assoc, length}
 use Rattle.std.specs.List.{list_all, list_any}
 use Rattle.std.specs.Option.{option_map_or}
-use Rattle.std.specs.Str.{bytes_eq, chars}
+use Rattle.std.specs.Str.{chars}
 use Rattle.std.proofs.Math.Utf8.{encode}
 use Rattle.std.proofs.lemmas.Bool.{and_parts}
 use Rattle.std.proofs.lemmas.List.{append-nil}
@@ -20,10 +20,11 @@ use Rattle.rosa_doc.specs.Machine.{Level, Within, opened}
 use Rattle.rosa_nodes.specs.Nodes.{child_named}
 use Rattle.rosa_nodes.proofs.Written.{Written, level, nothing_written, written_then}
 use Rattle.instance_doc.specs.declared.meta.Meta.{Meta}
-use Rattle.instance_doc.specs.Markup.{attribute, element, end_tag, escaped, in_utf8, start_tag}
+use Rattle.instance_doc.specs.Trees.{kept_text}
+use Rattle.instance_doc.specs.Markup.{attribute, element, end_tag, escaped, start_tag}
 use Rattle.instance_doc.specs.Rows.{Row, content, is_group, meta_path, row_at}
 use Rattle.instance_doc.specs.Documents.{action_attributes, deprecated_text, entity_attribute, entity_attributes, entity_tag, entity_text, ids_text, label_content, label_text, meta_content, meta_text, name_element, name_text, version_attributes}
-use Rattle.instance_doc.proofs.Tags.{AttributesAre, Content, NameIs, attribute_is, closes, element_node, element_written, end_written, kept_text, no_attributes, start_written, tag, with_attribute, with_content, with_node}
+use Rattle.instance_doc.proofs.Tags.{AttributesAre, Content, NameIs, attribute_is, closes, element_node, element_written, end_written, no_attributes, start_written, tag, with_attribute, with_content}
 use Rattle.instance_doc.proofs.Parts.{Filled, first_child, skipped, text_content}
 
 -- these bytes are these children, at the levels of `meta`

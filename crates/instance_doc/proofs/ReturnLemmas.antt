@@ -1,13 +1,12 @@
 -- The document of an instance has no carriage return.
-use Rattle.std.proofs.Common.{◌≡◌, ℕ, ◌≤◌, ◌<◌, ◌+◌, ◌/◌, ◌%◌, ◌==◌, ◌&&◌, ◌||◌, not, Bool, true, false, cond, List, [], ◌∷◌, ◌++◌, Option, Some, None, codes, refl, sym, ap, subst, ◌∙◌, inl, inr, arith, encode_utf8_all, ltb}
-use Rattle.std.specs.Char.{encode_utf8}
+use Rattle.std.proofs.Common.{◌≡◌, ℕ, ◌≤◌, ◌+◌, ◌/◌, ◌==◌, ◌||◌, not, Bool, true, false, cond, List, [], ◌∷◌, ◌++◌, Option, Some, None, codes, refl, sym, ap, subst, ◌∙◌, arith, encode_utf8_all, ltb}
 use Rattle.std.specs.List.{flat_map, list_all}
 use Rattle.std.specs.Option.{option_map_or}
 use Rattle.std.specs.Str.{bytes_eq, chars}
 use Rattle.std.proofs.Math.Utf8.{encode, next}
 use Rattle.std.proofs.lemmas.Bool.{and_from, and_parts, eqb-true, ne_eqb}
 use Rattle.std.proofs.lemmas.List.Folds.{list_all-append}
-use Rattle.field_text.specs.Xml.{is_xml_char, is_name_char, is_local_name, begins_as_name, xml_char_of}
+use Rattle.field_text.specs.Xml.{is_xml_char, is_name_char, begins_as_name, xml_char_of}
 use Rattle.form_def.specs.declared.field.Field.{Field}
 use Rattle.form_def.specs.declared.field.EntityDef.{EntityDef}
 use Rattle.form_def.specs.declared.form.FormDef.{FormDef}
@@ -17,8 +16,8 @@ use Rattle.rosa_doc.specs.Escapes.{in_text, in_value}
 use Rattle.instance_doc.specs.declared.meta.Meta.{Meta}
 use Rattle.instance_doc.specs.Markup.{attribute, element, end_tag, escaped, in_utf8, quoted, start_tag}
 use Rattle.instance_doc.specs.Rows.{Row, content, is_group, last_name, last_part, meta_path, row_at, rows_of}
-use Rattle.instance_doc.specs.Elements.{Placed, behind, children, field_text, fields_text, is_right_below, is_written, placed, texts_of, with_field}
-use Rattle.instance_doc.specs.Documents.{action_attributes, declaration, deprecated_text, doc_of, document, entity_attribute, entity_attributes, entity_tag, entity_text, ids_text, label_content, label_text, meta_content, meta_text, name_element, name_text, namespaces, root_attributes, root_content, root_name, root_tag, root_text, version_attributes}
+use Rattle.instance_doc.specs.Elements.{Placed, behind, children, field_text, fields_text, is_right_below, is_written, placed, values}
+use Rattle.instance_doc.specs.Documents.{action_attributes, declaration, deprecated_text, doc_of, entity_attribute, entity_tag, entity_text, ids_text, label_content, label_text, meta_content, meta_text, name_element, name_text, namespaces, root_attributes, root_content, root_name, root_tag, root_text, version_attributes}
 use Rattle.instance_doc.specs.Returns.{lacks_return}
 
 abbrev is_other : ℕ → Bool
@@ -191,16 +190,16 @@ rows_named root (f ∷ fields) (text ∷ texts) (is_shown ∷ shown) h =
     let parts = and_parts (is_path root f.path) (have_paths root fields) h in
     and_from (is_path root f.path) (list_all (has_name root) (rows_of fields texts shown)) parts.0 (rows_named root fields texts shown parts.1)
 
-abbrev is_clear : Placed → Bool
-is_clear p = lacks_return p.text
+abbrev is_clear : Placed (List ℕ) → Bool
+is_clear p = lacks_return p.value
 
-clear_texts : (ps : List Placed) → list_all is_clear ps ≡ true → lacks_return (texts_of ps) ≡ true
+clear_texts : (ps : List (Placed (List ℕ))) → list_all is_clear ps ≡ true → lacks_return (values ps) ≡ true
 clear_texts [] h = refl
 clear_texts (p ∷ ps) h =
     let parts = and_parts (is_clear p) (list_all is_clear ps) h in
-    both p.text (texts_of ps) parts.0 (clear_texts ps parts.1)
+    both p.value (values ps) parts.0 (clear_texts ps parts.1)
 
-clear_children : (parent : List ℕ) (ps : List Placed) → list_all is_clear ps ≡ true → list_all is_clear (children parent ps) ≡ true
+clear_children : (parent : List ℕ) (ps : List (Placed (List ℕ))) → list_all is_clear ps ≡ true → list_all is_clear (children parent ps) ≡ true
 clear_children parent [] h = refl
 clear_children parent (p ∷ ps) h =
     let parts = and_parts (is_clear p) (list_all is_clear ps) h in
@@ -209,7 +208,7 @@ clear_children parent (p ∷ ps) h =
       | false ↦ refl
     ]
 
-clear_behind : (parent : List ℕ) (ps : List Placed) → list_all is_clear ps ≡ true → list_all is_clear (behind parent ps) ≡ true
+clear_behind : (parent : List ℕ) (ps : List (Placed (List ℕ))) → list_all is_clear ps ≡ true → list_all is_clear (behind parent ps) ≡ true
 clear_behind parent [] h = refl
 clear_behind parent (p ∷ ps) h =
     elim (is_right_below parent p) as (λ b. list_all is_clear (cond b (behind parent ps) (p ∷ ps)) ≡ true) [
@@ -225,19 +224,19 @@ clear_field root meta r inside h k =
       | false ↦ refl
     ]
 
-clear_placed : (root meta : List ℕ) (rows : List Row) → list_all (has_name root) rows ≡ true → list_all is_clear (placed meta rows) ≡ true
+clear_placed : (root meta : List ℕ) (rows : List Row) → list_all (has_name root) rows ≡ true → list_all is_clear (placed (field_text meta) rows) ≡ true
 clear_placed root meta [] h = refl
 clear_placed root meta (r ∷ rows) h =
     let parts = and_parts (has_name root r) (list_all (has_name root) rows) h in
-    let others = placed meta rows in
+    let others = placed (field_text meta) rows in
     let rest = clear_placed root meta rows parts.1 in
-    let inside = texts_of (children r.field.path others) in
+    let inside = values (children r.field.path others) in
     and_from (lacks_return (field_text meta r inside)) (list_all is_clear (behind r.field.path others))
     (clear_field root meta r inside parts.0 (clear_texts (children r.field.path others) (clear_children r.field.path others rest)))
     (clear_behind r.field.path others rest)
 
 clear_fields : (root : List ℕ) (rows : List Row) → list_all (has_name root) rows ≡ true → lacks_return (fields_text root rows) ≡ true
-clear_fields root rows h = clear_texts (placed (meta_path root []) rows) (clear_placed root (meta_path root []) rows h)
+clear_fields root rows h = clear_texts (placed (field_text (meta_path root [])) rows) (clear_placed root (meta_path root []) rows h)
 
 -- ---- what stands in `meta`
 

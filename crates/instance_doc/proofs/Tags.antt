@@ -1,7 +1,7 @@
 -- Tags and elements as they are written, followed by the steps of the reader.
-use Rattle.std.proofs.Common.{◌≡◌, ℕ, ◌<◌, ◌≤◌, ◌+◌, ◌==◌, ◌&&◌, Bool, true, false, cond, List, [], ◌∷◌, ◌++◌, Option, Some, None, codes, refl, sym, ap, subst, ◌∙◌, inl, inr, not, arith, append_assoc, encode_utf8_all, map, length}
-use Rattle.std.specs.List.{flat_map, list_all, list_any}
-use Rattle.std.specs.Str.{bytes_eq, chars, is_utf8}
+use Rattle.std.proofs.Common.{◌≡◌, ℕ, ◌<◌, ◌+◌, ◌==◌, ◌&&◌, Bool, true, false, cond, List, [], ◌∷◌, ◌++◌, Some, None, codes, refl, sym, ap, subst, ◌∙◌, inl, inr, not, arith, encode_utf8_all, map, length}
+use Rattle.std.specs.List.{flat_map, list_any}
+use Rattle.std.specs.Str.{chars, is_utf8}
 use Rattle.std.proofs.Math.Utf8.{encode, scalar, scalars}
 use Rattle.std.proofs.lemmas.Bool.{and_from, and_parts, eqb-true, or_cases}
 use Rattle.std.proofs.lemmas.Str.{encodes-append, scalars-chars, IsUtf8-from_is_utf8}
@@ -22,6 +22,7 @@ use Rattle.rosa_doc.proofs.Escaping.{value_reads}
 use Rattle.rosa_doc.proofs.Names.{name_alike}
 use Rattle.rosa_nodes.proofs.Scalars.{data_is_scalars, scalars-append}
 use Rattle.rosa_nodes.proofs.Written.{Written, level, piece_written, written_then}
+use Rattle.instance_doc.specs.Trees.{kept_text}
 use Rattle.instance_doc.specs.Markup.{attribute, element, end_tag, in_utf8, start_tag}
 
 -- ---- names
@@ -65,10 +66,6 @@ value_is_scalars value cs (q, ds, inside, quote, spells, said, parts) =
     let mark = quote_is_scalar q quote in
     ap scalars parts ∙ and_from (scalar q) (scalars (inside ++ (q ∷ []))) mark
     (scalars-append inside (q ∷ []) (value_chars_are_scalars q ds inside spells) (and_from (scalar q) true mark refl))
-
--- the value as it is read
-abbrev pub kept_text : List ℕ → List ℕ
-kept_text text = encode_utf8_all (map xml_char_of (chars text))
 
 pub attribute_is : (n : Name) (name value : List ℕ) → NameIs n name → AttributeIs (record { name = n; value = kept_text value }) (attribute name value)
 unfolding encode

@@ -5,4 +5,5 @@ pub mod Elements
 pub mod Documents
 pub mod Returns
 pub mod Instances
+pub mod Trees
 pub mod ReadBack

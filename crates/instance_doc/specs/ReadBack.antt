@@ -10,7 +10,7 @@ use Rattle.rosa_doc.specs.LocalNames.{spells_local_name}
 use Rattle.instance_doc.specs.declared.instance.Read.{Read}
 use Rattle.instance_doc.specs.declared.meta.Meta.{Meta}
 use Rattle.instance_doc.specs.Rows.{Row, is_in_meta, last_name, meta_path, rows_of}
-use Rattle.instance_doc.specs.Elements.{Placed, placed}
+use Rattle.instance_doc.specs.Elements.{Placed, field_text, placed}
 use Rattle.instance_doc.specs.Documents.{doc_of, document_limit}
 
 -- what was given
@@ -40,11 +40,11 @@ is_right meta r =
     is_in_meta meta r.field.path || (spells_local_name (last_name r.field.path) && nat_le (names r.field.path) 16)
 
 -- an outermost field outside `meta` has another name
-abbrev pub is_no_meta : List ℕ → Placed → Bool
+abbrev pub is_no_meta : List ℕ → Placed (List ℕ) → Bool
 is_no_meta meta p = is_in_meta meta p.path || not (bytes_eq (last_name p.path) (codes "meta"))
 
 abbrev pub are_right : List ℕ → List Row → Bool
-are_right meta rows = list_all (is_right meta) rows && list_all (is_no_meta meta) (placed meta rows)
+are_right meta rows = list_all (is_right meta) rows && list_all (is_no_meta meta) (placed (field_text meta) rows)
 
 -- the names and the texts are right, and the document is within its limit
 abbrev pub reads_back : FormDef → List (List ℕ) → List Bool → Meta → Bool

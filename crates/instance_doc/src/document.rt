@@ -5,6 +5,8 @@ ghost use Rattle.instance_doc.specs.Documents.{namespaces, root_attributes, root
 ghost use Rattle.instance_doc.specs.Instances.{ReadsAs};
 ghost use Rattle.instance_doc.specs.ReadBack.{given, reads_back};
 ghost use Rattle.instance_doc.specs.Returns.{lacks_return};
+ghost use Rattle.instance_doc.specs.Rows.{rows_of};
+ghost use Rattle.instance_doc.specs.Trees.{HasFields};
 ghost use Rattle.instance_doc.specs.Views.{rows_in};
 
 use crate::elements::push_fields;
@@ -118,6 +120,8 @@ pub fn doc_bytes(
     ensures no_return { IfOk result (λ blob. lacks_return blob ≡ true) }
     ensures read_back { IfOk result (λ blob. reads_back form.now texts.now shown.now meta.now ≡ true
         → ReadsAs blob (given form.now meta.now)) }
+    ensures fields { IfOk result (λ blob. reads_back form.now texts.now shown.now meta.now ≡ true
+        → HasFields blob form.now.root (rows_of form.now.fields texts.now shown.now)) }
 {
     let rows = Rows {
         fields: form.fields.as_slice(),

@@ -1,7 +1,7 @@
 ghost use Rattle.std.specs.Prelude.{◌≡◌, ◌++◌, ◌≤◌, ℕ, List, [], IfOk, OnOk, length};
 ghost use Rattle.instance_doc.specs.Rows.{content};
 ghost use Rattle.instance_doc.specs.Elements.{behind, children, field_text, fields_text, is_written};
-ghost use Rattle.instance_doc.specs.Elements.{placed, texts_of};
+ghost use Rattle.instance_doc.specs.Elements.{placed, values};
 ghost use Rattle.instance_doc.specs.Views.{row_in, rows_in};
 
 use crate::markup::{close_element, push_start};
@@ -20,7 +20,7 @@ fn is_written(meta: &[u8], row: &Row) -> bool
 /// The rows behind those below a path.
 fn past_children<'a>(parent: &[u8], rows: &Rows<'a>) -> Rows<'a>
     ensures rest { (meta : List ℕ)
-        → placed meta (rows_in result) ≡ behind parent.now (placed meta (rows_in rows.now)) }
+        → placed (field_text meta) (rows_in result) ≡ behind parent.now (placed (field_text meta) (rows_in rows.now)) }
     ensures shorter { length result.fields.now ≤ length rows.now.fields.now }
 {
     let mut rest = *rows;
@@ -42,9 +42,9 @@ fn push_children<'a>(
     out: &mut Vec<u8>,
 ) -> Result<Rows<'a>, NoMemory>
     ensures text { OnOk result (out.new.items
-        ≡ out.old.items ++ texts_of (children parent.now (placed meta.now (rows_in rows.now)))) }
-    ensures rest { IfOk result (λ rest. placed meta.now (rows_in rest)
-        ≡ behind parent.now (placed meta.now (rows_in rows.now))) }
+        ≡ out.old.items ++ values (children parent.now (placed (field_text meta.now) (rows_in rows.now)))) }
+    ensures rest { IfOk result (λ rest. placed (field_text meta.now) (rows_in rest)
+        ≡ behind parent.now (placed (field_text meta.now) (rows_in rows.now))) }
     ensures shorter { IfOk result (λ rest. length rest.fields.now ≤ length rows.now.fields.now) }
 {
     let mut rest = *rows;
@@ -66,9 +66,9 @@ fn push_inside<'a>(
     out: &mut Vec<u8>,
 ) -> Result<Rows<'a>, NoMemory>
     ensures text { OnOk result (out.new.items ≡ out.old.items ++ content (row_in row.now)
-        (texts_of (children row.now.field.now.path (placed meta.now (rows_in others.now))))) }
-    ensures rest { IfOk result (λ rest. placed meta.now (rows_in rest)
-        ≡ behind row.now.field.now.path (placed meta.now (rows_in others.now))) }
+        (values (children row.now.field.now.path (placed (field_text meta.now) (rows_in others.now))))) }
+    ensures rest { IfOk result (λ rest. placed (field_text meta.now) (rows_in rest)
+        ≡ behind row.now.field.now.path (placed (field_text meta.now) (rows_in others.now))) }
     ensures shorter { IfOk result (λ rest. length rest.fields.now ≤ length others.now.fields.now) }
 {
     let path = row.field.path.bytes();
@@ -89,9 +89,9 @@ fn push_field<'a>(
     out: &mut Vec<u8>,
 ) -> Result<Rows<'a>, NoMemory>
     ensures text { OnOk result (out.new.items ≡ out.old.items ++ field_text meta.now (row_in row.now)
-        (texts_of (children row.now.field.now.path (placed meta.now (rows_in others.now))))) }
-    ensures rest { IfOk result (λ rest. placed meta.now (rows_in rest)
-        ≡ behind row.now.field.now.path (placed meta.now (rows_in others.now))) }
+        (values (children row.now.field.now.path (placed (field_text meta.now) (rows_in others.now))))) }
+    ensures rest { IfOk result (λ rest. placed (field_text meta.now) (rows_in rest)
+        ≡ behind row.now.field.now.path (placed (field_text meta.now) (rows_in others.now))) }
     ensures shorter { IfOk result (λ rest. length rest.fields.now ≤ length others.now.fields.now) }
 {
     if !is_written(meta, row) {

@@ -5,7 +5,8 @@ use Rattle.instance_doc.specs.Instances.{ReadsAs}
 use Rattle.instance_doc.specs.ReadBack.{given, reads_back}
 use Rattle.instance_doc.specs.Returns.{lacks_return}
 use Rattle.instance_doc.specs.Rows.{rows_of}
-use Rattle.instance_doc.proofs.DocumentWritten.{document_reads}
+use Rattle.instance_doc.specs.Trees.{HasFields}
+use Rattle.instance_doc.proofs.DocumentWritten.{document_has_fields, document_reads}
 use Rattle.instance_doc.proofs.Given.{given_document}
 use Rattle.instance_doc.proofs.ReturnLemmas.{document_lacks_return}
 use Rattle.instance_doc.proofs.document.doc_bytes.Goals as goal
@@ -29,3 +30,14 @@ returns-clause-read_back c =
     let P = λ (x : List ℕ). reads_back form texts shown meta ≡ true → ReadsAs x (given form meta) in
     let is = c.in_ok-document.ensures ∙ ap (λ (fields : List Field). document form (rows_of fields texts shown) meta) c.as_slice.ensures in
     given_document P c.limited.result c.in_ok-document.field-0.items c.limited.ensures (subst P (sym is) (document_reads form texts shown meta))
+
+pub returns-clause-fields : goal.returns-clause-fields
+returns-clause-fields c =
+    let form = c.args.form.now in
+    let texts = c.args.texts.now in
+    let shown = c.args.shown.now in
+    let meta = c.args.meta.now in
+    let P = λ (x : List ℕ). reads_back form texts shown meta ≡ true → HasFields x form.root (rows_of form.fields texts shown) in
+    let is = c.in_ok-document.ensures ∙ ap (λ (fields : List Field). document form (rows_of fields texts shown) meta) c.as_slice.ensures in
+    given_document P c.limited.result c.in_ok-document.field-0.items c.limited.ensures
+    (subst P (sym is) (document_has_fields form texts shown meta))

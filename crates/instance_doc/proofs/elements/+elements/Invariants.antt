@@ -1,5 +1,5 @@
 use Rattle.std.proofs.Common.{◌≡◌, ◌≤◌, ◌+◌, ◌*◌, ◌++◌, length}
-use Rattle.instance_doc.specs.Elements.{behind, children, placed, texts_of}
+use Rattle.instance_doc.specs.Elements.{behind, children, field_text, placed, values}
 use Rattle.instance_doc.specs.Views.{rows_in}
 use Rattle.instance_doc.proofs.elements.+elements.Given as goal
 
@@ -15,9 +15,9 @@ decreases-push_field l = 3 * length l.others.now.fields.now + 2
 
 abbrev pub invariant-push_children-loop-row : goal.invariant-push_children-loop-row
 invariant-push_children-loop-row l = record {
-  left : behind l.parent (placed l.meta (rows_in l.rest)) ≡ behind l.parent (placed l.meta (rows_in l.rows));
-  written : l.out.items ++ texts_of (children l.parent (placed l.meta (rows_in l.rest)))
-      ≡ l.fn.out.items ++ texts_of (children l.parent (placed l.meta (rows_in l.rows)));
+  left : behind l.parent (placed (field_text l.meta) (rows_in l.rest)) ≡ behind l.parent (placed (field_text l.meta) (rows_in l.rows));
+  written : l.out.items ++ values (children l.parent (placed (field_text l.meta) (rows_in l.rest)))
+      ≡ l.fn.out.items ++ values (children l.parent (placed (field_text l.meta) (rows_in l.rows)));
   shorter : length l.rest.fields.now ≤ length l.rows.fields.now;
 }
 
