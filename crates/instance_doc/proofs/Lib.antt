@@ -1,5 +1,6 @@
 pub mod MarkupLemmas
 pub mod RowLemmas
+pub mod Characters
 pub mod ReturnLemmas
 pub mod Given
 pub mod Tags

@@ -9,7 +9,8 @@ use Rattle.instance_doc.specs.declared.instance.Read.{Read}
 
 -- the text of a child of `meta`
 abbrev pub text_in_meta : List ℕ → Element → Option (List ℕ)
-text_in_meta name root = option_and_then (λ meta. option_map (λ e. words_of e.children) (child_named name meta.children))
+text_in_meta name root = option_and_then
+    (λ meta. option_map (λ e. words_of e.children) (child_named name meta.children))
     (child_named (codes "meta") root.children)
 
 -- what isn't there is the empty text, but for the deprecated id

@@ -2,7 +2,6 @@
 use Rattle.std.specs.Prelude.{◌≡◌, ℕ, if◌then◌else◌, List, [], ◌∷◌, ◌++◌, codes, encode_utf8_all, map}
 use Rattle.std.specs.Str.{chars}
 use Rattle.field_text.specs.Xml.{xml_char_of}
-use Rattle.form_def.specs.declared.form.FormDef.{FormDef}
 use Rattle.rosa_doc.specs.declared.tree.Doc.{Doc}
 use Rattle.rosa_doc.specs.declared.tree.Element.{Element}
 use Rattle.rosa_doc.specs.declared.tree.Node.{Node}

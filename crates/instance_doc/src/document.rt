@@ -1,7 +1,8 @@
 ghost use Rattle.std.specs.Prelude.{◌≡◌, ◌++◌, IfOk, OnOk, true};
 ghost use Rattle.field_text.specs.Steps.{Gives};
 ghost use Rattle.instance_doc.specs.Documents.{declaration, doc_of, document, fault_of, limited};
-ghost use Rattle.instance_doc.specs.Documents.{namespaces, root_attributes, root_content, root_name, root_tag, root_text};
+ghost use Rattle.instance_doc.specs.Documents.{namespaces, root_attributes, root_content, root_name, root_tag};
+ghost use Rattle.instance_doc.specs.Documents.{root_text};
 ghost use Rattle.instance_doc.specs.Instances.{ReadsAs};
 ghost use Rattle.instance_doc.specs.ReadBack.{given, reads_back};
 ghost use Rattle.instance_doc.specs.Returns.{lacks_return};

@@ -1,4 +1,5 @@
-//! The document of a finalized instance (OpenRosa with ODK Entities): written from a form's texts, and read for its ids.
+//! The document of a finalized instance (OpenRosa with ODK Entities): written from the texts of a form's fields, and
+//! read for its ids.
 #![tactic(auto)]
 
 mod document;

@@ -18,8 +18,10 @@ returns-clause-no_return c =
     let shown = c.args.shown.now in
     let meta = c.args.meta.now in
     let P = λ (x : List ℕ). lacks_return x ≡ true in
-    let is = c.in_ok-document.ensures ∙ ap (λ (fields : List Field). document form (rows_of fields texts shown) meta) c.as_slice.ensures in
-    given_document P c.limited.result c.in_ok-document.field-0.items c.limited.ensures (subst P (sym is) (document_lacks_return form texts shown meta))
+    let is = c.in_ok-document.ensures
+    ∙ ap (λ (fields : List Field). document form (rows_of fields texts shown) meta) c.as_slice.ensures in
+    given_document P c.limited.result c.in_ok-document.field-0.items c.limited.ensures
+    (subst P (sym is) (document_lacks_return form texts shown meta))
 
 pub returns-clause-read_back : goal.returns-clause-read_back
 returns-clause-read_back c =
@@ -28,8 +30,10 @@ returns-clause-read_back c =
     let shown = c.args.shown.now in
     let meta = c.args.meta.now in
     let P = λ (x : List ℕ). reads_back form texts shown meta ≡ true → ReadsAs x (given form meta) in
-    let is = c.in_ok-document.ensures ∙ ap (λ (fields : List Field). document form (rows_of fields texts shown) meta) c.as_slice.ensures in
-    given_document P c.limited.result c.in_ok-document.field-0.items c.limited.ensures (subst P (sym is) (document_reads form texts shown meta))
+    let is = c.in_ok-document.ensures
+    ∙ ap (λ (fields : List Field). document form (rows_of fields texts shown) meta) c.as_slice.ensures in
+    given_document P c.limited.result c.in_ok-document.field-0.items c.limited.ensures
+    (subst P (sym is) (document_reads form texts shown meta))
 
 pub returns-clause-fields : goal.returns-clause-fields
 returns-clause-fields c =
@@ -37,7 +41,9 @@ returns-clause-fields c =
     let texts = c.args.texts.now in
     let shown = c.args.shown.now in
     let meta = c.args.meta.now in
-    let P = λ (x : List ℕ). reads_back form texts shown meta ≡ true → HasFields x form.root (rows_of form.fields texts shown) in
-    let is = c.in_ok-document.ensures ∙ ap (λ (fields : List Field). document form (rows_of fields texts shown) meta) c.as_slice.ensures in
+    let P = λ (x : List ℕ). reads_back form texts shown meta ≡ true
+    → HasFields x form.root (rows_of form.fields texts shown) in
+    let is = c.in_ok-document.ensures
+    ∙ ap (λ (fields : List Field). document form (rows_of fields texts shown) meta) c.as_slice.ensures in
     given_document P c.limited.result c.in_ok-document.field-0.items c.limited.ensures
     (subst P (sym is) (document_has_fields form texts shown meta))

@@ -15,7 +15,8 @@ decreases-push_field l = 3 * length l.others.now.fields.now + 2
 
 abbrev pub invariant-push_children-loop-row : goal.invariant-push_children-loop-row
 invariant-push_children-loop-row l = record {
-  left : behind l.parent (placed (field_text l.meta) (rows_in l.rest)) ≡ behind l.parent (placed (field_text l.meta) (rows_in l.rows));
+  left : behind l.parent (placed (field_text l.meta) (rows_in l.rest)) ≡ behind l.parent
+      (placed (field_text l.meta) (rows_in l.rows));
   written : l.out.items ++ values (children l.parent (placed (field_text l.meta) (rows_in l.rest)))
       ≡ l.fn.out.items ++ values (children l.parent (placed (field_text l.meta) (rows_in l.rows)));
   shorter : length l.rest.fields.now ≤ length l.rows.fields.now;

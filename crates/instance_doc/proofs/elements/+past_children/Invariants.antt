@@ -8,7 +8,9 @@ decreases-past_children l = length l.rows.now.fields.now
 
 abbrev pub invariant-loop-row : goal.invariant-loop-row
 invariant-loop-row l = record {
-  left : (meta : List ℕ) → behind l.parent (placed (field_text meta) (rows_in l.rest)) ≡ behind l.parent (placed (field_text meta) (rows_in l.rows));
+  left : (meta : List ℕ)
+      → behind l.parent (placed (field_text meta) (rows_in l.rest)) ≡ behind l.parent
+      (placed (field_text meta) (rows_in l.rows));
   shorter : length l.rest.fields.now ≤ length l.rows.fields.now;
 }
 
