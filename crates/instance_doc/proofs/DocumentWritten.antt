@@ -1,12 +1,12 @@
 -- The document of an instance is read back as what was given.
-use Rattle.std.proofs.Common.{◌≡◌, ℕ, ◌≤◌, ◌&&◌, nat_le, Bool, true, false, cond, List, [], ◌∷◌, ◌++◌, Option, Some}
+use Rattle.std.proofs.Common.{◌≡◌, ℕ, ◌≤◌, ◌&&◌, Bool, true, false, cond, List, [], ◌∷◌, ◌++◌, Option, Some}
 use Rattle.std.proofs.Common.{None, codes, refl, sym, ap, subst, ◌∙◌, arith, append_assoc, encode_utf8_all, map, length}
 use Rattle.std.specs.Prelude.{option_map, option_and_then, unwrap_or}
 use Rattle.std.specs.List.{list_all}
 use Rattle.std.specs.Option.{option_map_or}
 use Rattle.std.specs.Str.{chars, is_utf8}
 use Rattle.std.proofs.Math.Utf8.{encode, scalars}
-use Rattle.std.proofs.lemmas.Bool.{and_parts, leb-true}
+use Rattle.std.proofs.lemmas.Bool.{and_parts}
 use Rattle.std.proofs.lemmas.List.{append-nil}
 use Rattle.std.proofs.lemmas.Str.{chars-encodes, encodes-append, encodes-chars, IsUtf8-from_is_utf8}
 use Rattle.field_text.specs.Xml.{is_xml_char, xml_char_of}
@@ -43,7 +43,7 @@ use Rattle.instance_doc.specs.Documents.{declaration, doc_of, document, document
 use Rattle.instance_doc.specs.Documents.{root_content, root_tag, root_text}
 use Rattle.instance_doc.specs.Instances.{ReadsAs, read_of, text_in_meta}
 use Rattle.instance_doc.specs.Trees.{HasFields, field_nodes, fields_nodes, kept_text}
-use Rattle.instance_doc.specs.ReadBack.{are_kept, are_right, given, is_kept, is_no_meta, is_right, reads_back}
+use Rattle.instance_doc.specs.ReadBack.{are_kept, are_right, given, is_kept, is_no_meta, is_readable, is_right}
 use Rattle.instance_doc.proofs.Tags.{AttributesAre, NameIs, attribute_is, end_written, no_attributes, own, own_name}
 use Rattle.instance_doc.proofs.Tags.{start_written, tag, with_attribute}
 use Rattle.instance_doc.proofs.Parts.{Parts, first_child, has_path, outermost_deep, parts_other, parts_written}
@@ -332,43 +332,41 @@ rows_have_paths root (f ∷ fields) (text ∷ texts) (is_shown ∷ shown) h =
     ap (λ (b : Bool). b && list_all (has_path root) (rows_of fields texts shown)) both.0
     ∙ rows_have_paths root fields texts shown both.1
 
--- the document of these rows, which reads so
+abbrev all_nodes : FormDef → List Row → Meta → List Node
+all_nodes form rows meta = fields_nodes form.root rows ++ (Child (meta_element form rows meta) ∷ [])
+
 record Reads (form : FormDef) (rows : List Row) (meta : Meta) : Type 0 where
-  document_is : IsDoc (document form rows meta)
-      (record { root = root_element form (fields_nodes form.root rows ++ (Child (meta_element form rows meta) ∷ [])) })
-  given_is : read_of
-      (root_element form (fields_nodes form.root rows ++ (Child (meta_element form rows meta) ∷ []))) ≡ given form meta
+  document_is : IsDoc (document form rows meta) (record { root = root_element form (all_nodes form rows meta) })
+  no_meta : child_named (codes "meta") (fields_nodes form.root rows) ≡ None
 
 reads_so : (form : FormDef) (texts : List (List ℕ)) (shown : List Bool) (meta : Meta)
-    → reads_back form texts shown meta ≡ true
+    → is_readable form (rows_of form.fields texts shown) ≡ true → length (doc_of form texts shown meta) ≤ document_limit
     → Reads form (rows_of form.fields texts shown) meta
-reads_so form texts shown meta h =
+reads_so form texts shown meta h low =
     let rows = rows_of form.fields texts shown in
     let path = meta_path form.root [] in
     let ps = placed (field_text path) rows in
     let qs = placed (field_nodes path) rows in
-    let c = and_parts _ (nat_le (length (doc_of form texts shown meta)) document_limit) h in
-    let b = and_parts _ (are_kept form meta) c.0 in
-    let a = and_parts (spells_local_name form.root) (are_right path rows) b.0 in
-    let right = and_parts (list_all (is_right path) rows) (list_all (is_no_meta path) ps) a.1 in
+    let names = and_parts (spells_local_name form.root) (are_right path rows) h in
+    let right = and_parts (list_all (is_right path) rows) (list_all (is_no_meta path) ps) names.1 in
     let paths = rows_have_paths form.root form.fields texts shown form.paths_named in
     let w = placed_parts form.root path rows paths right.0 in
-    let nodes = fields_nodes form.root rows in
-    let root = root_element form (nodes ++ (Child (meta_element form rows meta) ∷ [])) in
+    let root = root_element form (all_nodes form rows meta) in
     record {
-      document_is = document_is form rows meta root (root_written form rows meta a.0 paths w)
-          (leb-true (length (doc_of form texts shown meta)) document_limit c.1);
-      given_is = read_is form rows meta nodes (parts_other path ps qs w right.1) b.1;
+      document_is = document_is form rows meta root (root_written form rows meta names.0 paths w) low;
+      no_meta = parts_other path ps qs w right.1;
     }
 
 pub document_reads : (form : FormDef) (texts : List (List ℕ)) (shown : List Bool) (meta : Meta)
-    → reads_back form texts shown meta ≡ true
-    → ReadsAs (doc_of form texts shown meta) (given form meta)
-document_reads form texts shown meta h =
+    → is_readable form (rows_of form.fields texts shown) ≡ true → are_kept form meta ≡ true
+    → length (doc_of form texts shown meta) ≤ document_limit → ReadsAs (doc_of form texts shown meta) (given form meta)
+document_reads form texts shown meta h kept low =
     let rows = rows_of form.fields texts shown in
-    let reads = reads_so form texts shown meta h in
-    let root = root_element form (fields_nodes form.root rows ++ (Child (meta_element form rows meta) ∷ [])) in
-    (record { root = root }, reads.document_is, sym reads.given_is)
+    let reads = reads_so form texts shown meta h low in (
+      record { root = root_element form (all_nodes form rows meta) },
+      reads.document_is,
+      sym (read_is form rows meta (fields_nodes form.root rows) reads.no_meta kept),
+    )
 
 root_children : (form : FormDef) (nodes : List Node) → (root_element form nodes).children ≡ nodes
 root_children form nodes = refl
@@ -377,12 +375,12 @@ meta_named : (form : FormDef) (rows : List Row) (meta : Meta) → (meta_element 
 meta_named form rows meta = refl
 
 pub document_has_fields : (form : FormDef) (texts : List (List ℕ)) (shown : List Bool) (meta : Meta)
-    → reads_back form texts shown meta ≡ true
+    → is_readable form (rows_of form.fields texts shown) ≡ true → length (doc_of form texts shown meta) ≤ document_limit
     → HasFields (doc_of form texts shown meta) form.root (rows_of form.fields texts shown)
-document_has_fields form texts shown meta h =
+document_has_fields form texts shown meta h low =
     let rows = rows_of form.fields texts shown in
-    let reads = reads_so form texts shown meta h in
-    let all = fields_nodes form.root rows ++ (Child (meta_element form rows meta) ∷ []) in
+    let reads = reads_so form texts shown meta h low in
+    let all = all_nodes form rows meta in
     record {
       doc = record { root = root_element form all };
       document = reads.document_is;

@@ -105,8 +105,8 @@ abbrev pub document_limit : ℕ
 document_limit = 131072
 
 abbrev pub limited : List ℕ → Result (List ℕ) DocFault
-limited document = if nat_lt document_limit (length document) then Err
-    (fault.TooLong (length document)) else Ok document
+limited document =
+    if nat_lt document_limit (length document) then Err (fault.TooLong (length document)) else Ok document
 
 -- want of memory says nothing
 abbrev pub fault_of : DocFault → Option DocFault

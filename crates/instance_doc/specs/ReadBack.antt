@@ -1,5 +1,5 @@
 -- When the document of an instance is read back as what was given.
-use Rattle.std.specs.Prelude.{ℕ, Bool, true, not, ◌&&◌, ◌||◌, nat_le, List, [], codes, count_by, length}
+use Rattle.std.specs.Prelude.{ℕ, Bool, true, not, ◌&&◌, ◌||◌, nat_le, List, [], codes, count_by}
 use Rattle.std.specs.List.{list_all}
 use Rattle.std.specs.Option.{option_map_or}
 use Rattle.std.specs.Str.{bytes_eq, chars, is_utf8}
@@ -9,9 +9,8 @@ use Rattle.form_def.specs.Paths.{is_slash}
 use Rattle.rosa_doc.specs.LocalNames.{spells_local_name}
 use Rattle.instance_doc.specs.declared.instance.Read.{Read}
 use Rattle.instance_doc.specs.declared.meta.Meta.{Meta}
-use Rattle.instance_doc.specs.Rows.{Row, is_in_meta, last_name, meta_path, rows_of}
+use Rattle.instance_doc.specs.Rows.{Row, is_in_meta, last_name, meta_path}
 use Rattle.instance_doc.specs.Elements.{Placed, field_text, placed}
-use Rattle.instance_doc.specs.Documents.{doc_of, document_limit}
 
 -- what was given
 abbrev pub given : FormDef → Meta → Read
@@ -46,8 +45,6 @@ is_no_meta meta p = is_in_meta meta p.path || not (bytes_eq (last_name p.path) (
 abbrev pub are_right : List ℕ → List Row → Bool
 are_right meta rows = list_all (is_right meta) rows && list_all (is_no_meta meta) (placed (field_text meta) rows)
 
--- the names and the texts are right, and the document is within its limit
-abbrev pub reads_back : FormDef → List (List ℕ) → List Bool → Meta → Bool
-reads_back form texts shown meta =
-    spells_local_name form.root && are_right (meta_path form.root []) (rows_of form.fields texts shown)
-    && are_kept form meta && nat_le (length (doc_of form texts shown meta)) document_limit
+-- the names that are written are such that the document can be read
+abbrev pub is_readable : FormDef → List Row → Bool
+is_readable form rows = spells_local_name form.root && are_right (meta_path form.root []) rows

@@ -4,7 +4,7 @@ ghost use Rattle.instance_doc.specs.Documents.{declaration, doc_of, document, fa
 ghost use Rattle.instance_doc.specs.Documents.{namespaces, root_attributes, root_content, root_name, root_tag};
 ghost use Rattle.instance_doc.specs.Documents.{root_text};
 ghost use Rattle.instance_doc.specs.Instances.{ReadsAs};
-ghost use Rattle.instance_doc.specs.ReadBack.{given, reads_back};
+ghost use Rattle.instance_doc.specs.ReadBack.{are_kept, given, is_readable};
 ghost use Rattle.instance_doc.specs.Returns.{lacks_return};
 ghost use Rattle.instance_doc.specs.Rows.{rows_of};
 ghost use Rattle.instance_doc.specs.Trees.{HasFields};
@@ -119,9 +119,9 @@ pub fn doc_bytes(
 ) -> Result<Blob, DocFault>
     ensures document { Gives fault_of (λ blob. blob) result (limited (doc_of form.now texts.now shown.now meta.now)) }
     ensures no_return { IfOk result (λ blob. lacks_return blob ≡ true) }
-    ensures read_back { IfOk result (λ blob. reads_back form.now texts.now shown.now meta.now ≡ true
-        → ReadsAs blob (given form.now meta.now)) }
-    ensures fields { IfOk result (λ blob. reads_back form.now texts.now shown.now meta.now ≡ true
+    ensures read_back { IfOk result (λ blob. is_readable form.now (rows_of form.now.fields texts.now shown.now) ≡ true
+        → are_kept form.now meta.now ≡ true → ReadsAs blob (given form.now meta.now)) }
+    ensures fields { IfOk result (λ blob. is_readable form.now (rows_of form.now.fields texts.now shown.now) ≡ true
         → HasFields blob form.now.root (rows_of form.now.fields texts.now shown.now)) }
 {
     let rows = Rows {
