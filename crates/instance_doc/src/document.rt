@@ -108,8 +108,9 @@ fn limited(document: Vec<u8>) -> Result<Blob, DocFault>
     Ok(Blob::from_vec(document))
 }
 
-/// The document of an instance: the fields that are shown with their texts, the ids, and the name and the entity where
-/// the form has them. It is refused where it is longer than a document may be.
+/// The document of an instance of the form, with a text for each field and whether the field is shown: the fields that
+/// are shown, the ids, and the name and the entity where the form has them. It is refused where it has more bytes than
+/// `DOCUMENT_LIMIT`.
 pub fn doc_bytes(
     alloc: Global,
     form: &FormDef,
