@@ -1,2 +1,5 @@
 pub mod Posts
 pub mod Acceptance
+pub mod Parameters
+pub mod Parts
+pub mod Submissions

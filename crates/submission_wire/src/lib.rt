@@ -2,7 +2,12 @@
 #![tactic(auto)]
 
 mod acceptance;
+mod cut;
+mod parameters;
+mod part;
 mod post;
+mod submission;
 
 pub use acceptance::accepted;
 pub use post::post_text;
+pub use submission::read_submission;
