@@ -13,6 +13,9 @@ use memchr::memmem;
 /// A head with more fields isn't read.
 const MOST_FIELDS: usize = 64;
 
+// The name of the part that is the document.
+const DOCUMENT_NAME: &[u8] = b"\"xml_submission_file\"";
+
 // The bytes behind this front.
 fn behind_front<'a>(bytes: &'a [u8], start: &[u8]) -> Option<&'a [u8]>
     ensures { MatchOption result ((rest : List ℕ) → bytes.now ≢ start.now ++ rest)
@@ -25,7 +28,7 @@ fn is_document_name(name: Option<&[u8]>) -> bool
     ensures { result ≡ spec.is_document_name (option_copied name) }
 {
     match name {
-        Some(name) => name == b"\"xml_submission_file\"",
+        Some(name) => name == DOCUMENT_NAME,
         None => false,
     }
 }
@@ -60,7 +63,7 @@ fn content_of(part: &[u8]) -> Option<&[u8]>
 fn is_last_tail(tail: &[u8]) -> bool
     ensures { result ≡ spec.is_last_tail tail.now }
 {
-    tail == b"--" || tail == b"--\r\n"
+    tail == b"--".as_slice() || tail == b"--\r\n".as_slice()
 }
 
 // The document up to the first delimiter, where that ends the last part.
