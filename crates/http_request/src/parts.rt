@@ -1,6 +1,5 @@
 //! Parts of a request.
-ghost use Rattle.std.specs.Prelude.{◌≡◌, ◌≤◌, ◌==◌, length, drop, IfOk, Some};
-ghost use Rattle.http_reply.specs.Fields as fields;
+ghost use Rattle.std.specs.Prelude.{◌≡◌, IfOk};
 ghost use Rattle.http_request.specs.Requests as spec;
 
 use field_text::{NoMemory, Text, TextRefused};
@@ -9,14 +8,6 @@ use http_reply::{Framing, stated_framing};
 use std::alloc::Global;
 
 const CONTENT_TYPE: &[u8] = b"content-type";
-
-/// The bytes from a place on.
-pub(crate) fn behind(bytes: &[u8], at: usize) -> &[u8]
-    requires { at ≤ length bytes.now }
-    ensures { result.now ≡ drop at bytes.now }
-{
-    &bytes[at..]
-}
 
 /// The text of these bytes, if they are one.
 pub(crate) fn text_of(alloc: Global, bytes: &[u8]) -> Result<Option<Text>, NoMemory>

@@ -1,10 +1,10 @@
 //! Requests as they are read.
-ghost use Rattle.std.specs.Prelude.{◌≡◌, IfOk, length};
+ghost use Rattle.std.specs.Prelude.{◌≡◌, IfOk};
 ghost use Rattle.http_request.specs.Requests as spec;
 ghost use Rattle.http_request.specs.Requests.{ReadsAs};
-ghost use Rattle.http_reply.specs.Fields.{Fields};
 
-use crate::parts::{behind, content_type, has_length, text_of};
+use crate::cut::behind;
+use crate::parts::{content_type, has_length, text_of};
 use field_text::{Blob, NoMemory, Text};
 use http_reply::fields::FieldList;
 use httparse::Status;
@@ -12,7 +12,7 @@ use httparse::spans::{EMPTY_HEADER_SPAN, parse_request};
 use std::alloc::Global;
 
 /// A head with more fields isn't read.
-const MOST_FIELDS: usize = 64;
+pub const MOST_FIELDS: usize = 64;
 
 /// A request: what is asked for, and what is sent along.
 #[derive(Debug, Drop)]

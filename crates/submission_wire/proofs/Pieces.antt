@@ -1,12 +1,14 @@
 -- Pieces of a value, one after another.
-use Rattle.std.proofs.Common.{◌≡◌, ℕ, suc, ◌+◌, true, false, List, [], ◌∷◌, length, take, drop, refl, sym, ap, ◌∙◌, arith}
+use Rattle.std.proofs.Common.{◌≡◌, ℕ, suc, ◌+◌, true, false, List, [], ◌∷◌, length, take, drop, refl, sym, ap, ◌∙◌}
+use Rattle.std.proofs.Common.{arith}
 use Rattle.std.specs.Option.{option_or}
 use Rattle.std.proofs.lemmas.Bool.{eqb-true}
 use Rattle.httparse.specs.Grammar.{trim_ows}
 use Rattle.http_reply.proofs.LineCounts.{split}
 use Rattle.submission_wire.specs.declared.parameters.Place.{Place}
 use Rattle.submission_wire.specs.declared.parameters.Place.TheVariants.{Bare, Quoted, Escaped}
-use Rattle.submission_wire.specs.Parameters.{place_behind, ends_piece, joined, pieces_from, first_piece, kind_of, behind_name, first_behind, parameter, piece_len, later}
+use Rattle.submission_wire.specs.Parameters.{place_behind, ends_piece, joined, pieces_from, first_piece, kind_of}
+use Rattle.submission_wire.specs.Parameters.{behind_name, first_behind, parameter, piece_len, later}
 
 bare_behind : (place : Place) (b : ℕ) → ends_piece place b ≡ true → place_behind place b ≡ Bare
 bare_behind Bare b is = let e : b ≡ 59 = eqb-true b 59 is in rw e refl
@@ -14,7 +16,8 @@ bare_behind Quoted b is = absurd (let t : false ≡ true = is in cc)
 bare_behind Escaped b is = absurd (let t : false ≡ true = is in cc)
 
 -- the first piece ends at its length
-pub pieces_cut : (place : Place) (bytes : List ℕ) → pieces_from place bytes ≡ take (piece_len place bytes) bytes ∷ later (drop (piece_len place bytes) bytes)
+pub pieces_cut : (place : Place) (bytes : List ℕ)
+    → pieces_from place bytes ≡ take (piece_len place bytes) bytes ∷ later (drop (piece_len place bytes) bytes)
 pieces_cut place [] = refl
 pieces_cut place (b ∷ bytes) =
     split (ends_piece place b)
@@ -25,20 +28,26 @@ pub kind_is : (value : List ℕ) → trim_ows (take (piece_len Bare value) value
 unfolding kind_of
 kind_is value = ap (λ ps. trim_ows (first_piece ps)) (sym (pieces_cut Bare value))
 
-pub parameter_later : (name value : List ℕ) → parameter name value ≡ first_behind name (later (drop (piece_len Bare value) value))
+pub parameter_later : (name value : List ℕ)
+    → parameter name value ≡ first_behind name (later (drop (piece_len Bare value) value))
 unfolding parameter
 parameter_later name value = ap (λ ps. first_behind name (drop 1 ps)) (pieces_cut Bare value)
 
 pub later_step : (name rest : List ℕ) (b : ℕ) (others : List ℕ) → rest ≡ b ∷ others
-    → first_behind name (later rest) ≡ option_or (behind_name name (trim_ows (take (piece_len Bare others) others))) (first_behind name (later (drop (piece_len Bare others) others)))
-later_step name rest b others is = ap (λ r. first_behind name (later r)) is ∙ ap (first_behind name) (pieces_cut Bare others)
+    → first_behind name (later rest) ≡ option_or (behind_name name (trim_ows (take (piece_len Bare others) others)))
+    (first_behind name (later (drop (piece_len Bare others) others)))
+later_step name rest b others is = ap (λ r. first_behind name (later r)) is
+    ∙ ap (first_behind name) (pieces_cut Bare others)
 
 -- ---- one byte more of the piece at the front
 
-module _ (place : Place) (rest : List ℕ) (b : ℕ) (others : List ℕ) (is : rest ≡ b ∷ others) (total len : ℕ) (before : total ≡ len + piece_len place rest) where
-  pub len_more : (next : Place) → false ≡ ends_piece place b → next ≡ place_behind place b → total ≡ len + 1 + piece_len next others
+module _ (place : Place) (rest : List ℕ) (b : ℕ) (others : List ℕ) (is : rest ≡ b ∷ others) (total len : ℕ)
+    (before : total ≡ len + piece_len place rest) where
+  pub len_more : (next : Place) → false ≡ ends_piece place b → next ≡ place_behind place b
+      → total ≡ len + 1 + piece_len next others
   len_more next goes next_is =
-      let e : piece_len place rest ≡ suc (piece_len (place_behind place b) others) = ap (piece_len place) is ∙ rw (← goes) refl in
+      let e : piece_len place rest ≡ suc (piece_len (place_behind place b) others) = ap (piece_len place) is
+      ∙ rw (← goes) refl in
       rw next_is (omega arith)
 
   pub len_here : true ≡ ends_piece place b → len ≡ total

@@ -11,7 +11,8 @@ use Rattle.submission_wire.specs.Submissions.{IsSubmission, Submits}
 module _ (request : Request) where
   pub no_post : bytes_eq request.method (codes "POST") ≡ false → Submits request None
   no_post other document has =
-      let same : bytes_eq request.method (codes "POST") ≡ true = (bytes_eq-Decides request.method (codes "POST")).1 has.posted in
+      let same : bytes_eq request.method (codes "POST") ≡ true =
+      (bytes_eq-Decides request.method (codes "POST")).1 has.posted in
       cc
 
   pub no_boundary : None ≡ form_boundary request.content_type → Submits request None
@@ -19,8 +20,10 @@ module _ (request : Request) where
       let some = has.typed in
       cc
 
-  pub submits : bytes_eq request.method (codes "POST") ≡ true → (boundary : List ℕ) → Some boundary ≡ form_boundary request.content_type → (found : Option (List ℕ))
-      → IsOneOrNone (HasPart (first_delimiter boundary) (delimiter boundary) request.body) found → Submits request found
+  pub submits : bytes_eq request.method (codes "POST") ≡ true → (boundary : List ℕ)
+      → Some boundary ≡ form_boundary request.content_type → (found : Option (List ℕ))
+      → IsOneOrNone (HasPart (first_delimiter boundary) (delimiter boundary) request.body) found
+      → Submits request found
   submits post boundary typed (Some document) part = record {
     posted = (bytes_eq-Decides request.method (codes "POST")).0 post;
     boundary = boundary;

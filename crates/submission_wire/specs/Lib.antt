@@ -3,3 +3,4 @@ pub mod Acceptance
 pub mod Parameters
 pub mod Parts
 pub mod Submissions
+pub mod Returns

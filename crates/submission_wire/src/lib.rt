@@ -2,12 +2,14 @@
 #![tactic(auto)]
 
 mod acceptance;
-mod cut;
+mod laws;
 mod parameters;
 mod part;
 mod post;
 mod submission;
+mod trim;
 
 pub use acceptance::accepted;
+pub use laws::submissions_return;
 pub use post::post_text;
 pub use submission::read_submission;

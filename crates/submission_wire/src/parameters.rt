@@ -3,7 +3,8 @@ ghost use Rattle.std.specs.Prelude.{◌≡◌, ◌≤◌, length, option_copied}
 ghost use Rattle.std.specs.Str.{str_eq_ignore_ascii_case};
 ghost use Rattle.submission_wire.specs.Parameters as spec;
 
-use crate::cut::{behind, front, trimmed};
+use crate::trim::trimmed;
+use http_request::cut::{behind, front};
 
 /// Where a byte of a value stands.
 #[derive(Clone, Copy, Debug, PartialEq, Eq)]

@@ -3,15 +3,13 @@ ghost use Rattle.std.specs.Prelude.{◌≡◌, ◌≢◌, ◌++◌, ℕ, List, o
 ghost use Rattle.submission_wire.specs.Parts as spec;
 ghost use Rattle.submission_wire.specs.Parts.{HasContent, HasPart, IsClosed, IsOneOrNone};
 
-use crate::cut::{behind, front};
 use crate::parameters::parameter;
 use http_reply::fields::FieldList;
+use http_request::MOST_FIELDS;
+use http_request::cut::{behind, front};
 use httparse::Status;
 use httparse::spans::{EMPTY_HEADER_SPAN, parse_headers};
-use memchr::memmem;
-
-/// A head with more fields isn't read.
-const MOST_FIELDS: usize = 64;
+use memchr::memmem::find;
 
 // The name of the part that is the document.
 const DOCUMENT_NAME: &[u8] = b"\"xml_submission_file\"";
@@ -70,7 +68,7 @@ fn is_last_tail(tail: &[u8]) -> bool
 fn document_of<'a>(content: &'a [u8], ending: &[u8]) -> Option<&'a [u8]>
     ensures { IsOneOrNone (IsClosed ending.now content.now) (option_copied result) }
 {
-    let Some(at) = memmem::find(content, ending) else {
+    let Some(at) = find(content, ending) else {
         return None;
     };
     if is_last_tail(behind(content, at + ending.len())) {

@@ -54,7 +54,11 @@ fn write_body_fields(alloc: Global, length: usize, out: &mut Vec<u8>) -> Result<
     ensures { OnOk result (out.new.items ≡ out.old.items ++ spec.body_fields length) }
 {
     let digits = decimal_text(alloc, length as u64)?;
-    write_field("Content-Type", b"multipart/form-data; boundary=odk-part", out)?;
+    write_field(
+        "Content-Type",
+        b"multipart/form-data; boundary=odk-part",
+        out,
+    )?;
     write_field("Content-Length", digits.bytes(), out)
 }
 

@@ -27,29 +27,105 @@ static DOCUMENTS: [&str; 3] = ["<d/>", "", "<d>&#13;\n--odk-part--\n--odk-part</
 
 // A content type, a head and what is behind it, and the document of the body that is opened by the boundary `b`.
 static BODIES: [(&str, &str, &str, &str); 14] = [
-    ("multipart/form-data; boundary=b", "name=\"xml_submission_file\"", "x\r\n--b--\r\n", "x"),
-    ("multipart/form-data; boundary=b", "name=\"xml_submission_file\"", "\r\n--b--", ""),
-    ("multipart/form-data; boundary=b", "name=\"xml_submission_file\"", "--b--\n--b\r\n--b--", "--b--\n--b"),
-    ("Multipart/Form-Data ;a=\"\\\"; boundary=c\" ; BOUNDARY=\"b\"", "NAME=\"xml_submission_file\"", "x\r\n--b--", "x"),
-    ("multipart/form-data; boundary=b; boundary=c", "a=\";name=b\"; name=\"xml_submission_file\"", "x\r\n--b--", "x"),
-    ("multipart/form-data; boundary=c; boundary=b", "name=\"xml_submission_file\"", "x\r\n--b--", "-"),
-    ("multipart/mixed; boundary=b", "name=\"xml_submission_file\"", "x\r\n--b--", "-"),
-    ("multipart/form-data", "name=\"xml_submission_file\"", "x\r\n--b--", "-"),
-    ("multipart/form-data; boundary=b", "name=xml_submission_file", "x\r\n--b--", "-"),
-    ("multipart/form-data; boundary=b", "name=\"other\"", "x\r\n--b--", "-"),
-    ("multipart/form-data; boundary=b", "name=\"xml_submission_file\"", "x\r\n--b--\r\n\r\n", "-"),
-    ("multipart/form-data; boundary=b", "name=\"xml_submission_file\"", "x\r\n--b\r\ny\r\n--b--", "-"),
-    ("multipart/form-data; boundary=b", "name=\"xml_submission_file\"", "x\r\n--bb\r\n--b--", "-"),
-    ("multipart/form-data; boundary=b", "name=\"xml_submission_file\"", "x\n--b--", "-"),
+    (
+        "multipart/form-data; boundary=b",
+        "name=\"xml_submission_file\"",
+        "x\r\n--b--\r\n",
+        "x",
+    ),
+    (
+        "multipart/form-data; boundary=b",
+        "name=\"xml_submission_file\"",
+        "\r\n--b--",
+        "",
+    ),
+    (
+        "multipart/form-data; boundary=b",
+        "name=\"xml_submission_file\"",
+        "--b--\n--b\r\n--b--",
+        "--b--\n--b",
+    ),
+    (
+        "Multipart/Form-Data ;a=\"\\\"; boundary=c\" ; BOUNDARY=\"b\"",
+        "NAME=\"xml_submission_file\"",
+        "x\r\n--b--",
+        "x",
+    ),
+    (
+        "multipart/form-data; boundary=b; boundary=c",
+        "a=\";name=b\"; name=\"xml_submission_file\"",
+        "x\r\n--b--",
+        "x",
+    ),
+    (
+        "multipart/form-data; boundary=c; boundary=b",
+        "name=\"xml_submission_file\"",
+        "x\r\n--b--",
+        "-",
+    ),
+    (
+        "multipart/mixed; boundary=b",
+        "name=\"xml_submission_file\"",
+        "x\r\n--b--",
+        "-",
+    ),
+    (
+        "multipart/form-data",
+        "name=\"xml_submission_file\"",
+        "x\r\n--b--",
+        "-",
+    ),
+    (
+        "multipart/form-data; boundary=b",
+        "name=xml_submission_file",
+        "x\r\n--b--",
+        "-",
+    ),
+    (
+        "multipart/form-data; boundary=b",
+        "name=\"other\"",
+        "x\r\n--b--",
+        "-",
+    ),
+    (
+        "multipart/form-data; boundary=b",
+        "name=\"xml_submission_file\"",
+        "x\r\n--b--\r\n\r\n",
+        "-",
+    ),
+    (
+        "multipart/form-data; boundary=b",
+        "name=\"xml_submission_file\"",
+        "x\r\n--b\r\ny\r\n--b--",
+        "-",
+    ),
+    (
+        "multipart/form-data; boundary=b",
+        "name=\"xml_submission_file\"",
+        "x\r\n--bb\r\n--b--",
+        "-",
+    ),
+    (
+        "multipart/form-data; boundary=b",
+        "name=\"xml_submission_file\"",
+        "x\n--b--",
+        "-",
+    ),
 ];
 
 static REPLIES: [(&str, bool); 6] = [
-    ("HTTP/1.1 201 Created\r\nContent-Encoding: gzip\r\n\r\n", true),
+    (
+        "HTTP/1.1 201 Created\r\nContent-Encoding: gzip\r\n\r\n",
+        true,
+    ),
     ("HTTP/1.1 202 Accepted\r\nContent-Length: 9\r\n\r\n", true),
     ("HTTP/1.1 200 OK\r\n\r\n", false),
     ("HTTP/1.1 203 Other\r\n\r\n", false),
     ("HTTP/1.1 201 Created\r\n", false),
-    ("HTTP/1.1 100 Continue\r\n\r\nHTTP/1.1 201 Created\r\n\r\n", true),
+    (
+        "HTTP/1.1 100 Continue\r\n\r\nHTTP/1.1 201 Created\r\n\r\n",
+        true,
+    ),
 ];
 
 fn text_of(alloc: Global, text: &str) -> Result<Text, Fail> {
@@ -57,7 +133,11 @@ fn text_of(alloc: Global, text: &str) -> Result<Text, Fail> {
 }
 
 fn blob_of(alloc: Global, text: &str) -> Result<Blob, Fail> {
-    Ok(Blob::from_bytes(alloc, text.as_bytes()).ok().ok_or("no memory")?)
+    Ok(
+        Blob::from_bytes(alloc, text.as_bytes())
+            .ok()
+            .ok_or("no memory")?,
+    )
 }
 
 fn post_of(alloc: Global, document: &str) -> Result<Blob, Fail> {
@@ -66,7 +146,11 @@ fn post_of(alloc: Global, document: &str) -> Result<Blob, Fail> {
         target: text_of(alloc, "")?,
     };
     let document = blob_of(alloc, document)?;
-    Ok(post_text(alloc, &base, 0, &document).ok().ok_or("no memory")?)
+    Ok(
+        post_text(alloc, &base, 0, &document)
+            .ok()
+            .ok_or("no memory")?,
+    )
 }
 
 fn shown_submission(alloc: Global, request: &Request) -> Result<String, Fail> {
@@ -98,12 +182,20 @@ fn a_post_is_these_bytes(rt: HostRuntime) -> Result<(), Fail> {
 fn documents_come_back(rt: HostRuntime) -> Result<(), Fail> {
     let alloc = rt.alloc();
     for document in &DOCUMENTS {
-        assert_eq!(rt; shown_return(alloc, &post_of(alloc, document)?)?.as_str(), *document);
+        assert_eq!(rt;
+            shown_return(alloc, &post_of(alloc, document)?)?.as_str(),
+            *document
+        );
     }
     Ok(())
 }
 
-fn request_of(alloc: Global, content_type: &str, named: &str, content: &str) -> Result<Request, Fail> {
+fn request_of(
+    alloc: Global,
+    content_type: &str,
+    named: &str,
+    content: &str,
+) -> Result<Request, Fail> {
     let mut body = String::from_str(alloc, "--b\r\nContent-Disposition: form-data; ")?;
     for part in [named, "\r\n\r\n", content] {
         body.push_str(part)?;

@@ -9,4 +9,5 @@ returns-in-Ok c = text_is c.args.bytes.now c.in-Ok.text c.in-Ok.ensures.utf8 c.i
 pub returns-in-Err-NotUtf8 : goal.returns-in-Err-NotUtf8
 returns-in-Err-NotUtf8 c =
     let refused = c.in-Err-NotUtf8 in
-    no_text c.args.bytes.now refused.field-0-0 (refused.ensures.not_utf8 refused.field-0-0 (ap Err refused.field-0-is))
+    no_text c.args.bytes.now refused.field-0-0
+    (refused.ensures.not_utf8 refused.field-0-0 (ap Err refused.field-0-is))

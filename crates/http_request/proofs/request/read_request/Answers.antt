@@ -15,5 +15,6 @@ returns-in-Ok-Complete c =
     let rest = c.behind.result.now in
     let fields = c.new-fields.result in
     IfOk-weaker c.with_body.result (λ read. read ≡ with_body method target fields rest) (ReadsAs bytes)
-    (λ read is. found_read bytes c.parse_request.new.headers p.found at.0 at.1 (omega arith) method target rest fields read c.of-method.ensures c.of-target.ensures c.new-fields.ensures c.behind.ensures is)
+    (λ read is. found_read bytes c.parse_request.new.headers p.found at.0 at.1 (omega arith) method target rest fields
+    read c.of-method.ensures c.of-target.ensures c.new-fields.ensures c.behind.ensures is)
     c.with_body.ensures

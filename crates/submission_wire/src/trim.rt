@@ -1,24 +1,8 @@
-//! Parts of bytes.
-ghost use Rattle.std.specs.Prelude.{◌≡◌, ◌≤◌, length, take, drop, reverse};
+//! Bytes without the white space round them.
+ghost use Rattle.std.specs.Prelude.{◌≡◌, reverse};
 ghost use Rattle.httparse.specs.Grammar.{skip_ows, trim_ows};
 
 use httparse::is_space_or_tab;
-
-/// The bytes before a place.
-pub(crate) fn front(bytes: &[u8], len: usize) -> &[u8]
-    requires { len ≤ length bytes.now }
-    ensures { result.now ≡ take len bytes.now }
-{
-    &bytes[..len]
-}
-
-/// The bytes from a place on.
-pub(crate) fn behind(bytes: &[u8], at: usize) -> &[u8]
-    requires { at ≤ length bytes.now }
-    ensures { result.now ≡ drop at bytes.now }
-{
-    &bytes[at..]
-}
 
 fn trim_start(mut bytes: &[u8]) -> &[u8]
     ensures { result.now ≡ skip_ows bytes.now }
