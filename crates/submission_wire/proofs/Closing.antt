@@ -1,6 +1,6 @@
 -- The parts of a body, each of which is one or none.
 use Rattle.std.proofs.Common.{◌≡◌, ◌≢◌, ℕ, ◌+◌, ◌<◌, ◌≤◌, true, false, List, [], ◌++◌, length, take, drop}
-use Rattle.std.proofs.Common.{map, Option, Some, None, sym, ap, subst, ◌∙◌, arith, append_assoc}
+use Rattle.std.proofs.Common.{map, Option, Some, None, sym, ap, subst, ◌∙◌, arith}
 use Rattle.std.proofs.Common.{take-append-drop}
 use Rattle.std.proofs.Math.Seq.{take-append_seam, drop-append_seam}
 use Rattle.std.proofs.Math.ListN.{get_or-append}
@@ -131,16 +131,15 @@ module _ (opening ending body : List ℕ) where
   closed_part part content opened headed (Some document) closes = record {
     part = part;
     content = content;
-    opened =
-        opened;
+    opened = opened;
     headed = headed;
     closes = closes;
   }
-  closed_part part content opened headed None none document has =
+  closed_part part content opened headed None none = λ document has.
       let there : HasContent part has.content =
-      subst (λ p. HasContent p has.content) (part_is part opened document has) has.headed in
-      none document (subst (λ c. IsClosed ending c document) (content_unique part has.content content there headed)
-      has.closes)
+          subst (λ p. HasContent p has.content) (part_is part opened document has) has.headed in
+      let same : has.content ≡ content = content_unique part has.content content there headed in
+      none document (subst (λ c. IsClosed ending c document) same has.closes)
 
   pub part_unique : (a b : List ℕ) → HasPart opening ending body a → HasPart opening ending body b → a ≡ b
   part_unique a b x y =
@@ -156,7 +155,7 @@ pub front_cut : (bytes start : List ℕ) (rest : Option (Bor (List ℕ)))
     (λ x. (bytes_eq (take (length start) bytes) start ≡ true) × (x.now ≡ drop (length start) bytes)
     × (length x.now + length start ≡ length bytes))
     → MatchOption rest ((behind : List ℕ) → bytes ≢ start ++ behind) (λ x. bytes ≡ start ++ x.now)
-front_cut bytes start None other behind is =
+front_cut bytes start None other = λ behind is.
     let seam : take (length start) bytes ≡ start = ap (take (length start)) is ∙ take-append_seam start behind in
     let same : bytes_eq (take (length start) bytes) start ≡ true =
         (bytes_eq-Decides (take (length start) bytes) start).1 seam in

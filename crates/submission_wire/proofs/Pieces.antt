@@ -1,5 +1,5 @@
 -- Pieces of a value, one after another.
-use Rattle.std.proofs.Common.{◌≡◌, ℕ, suc, ◌+◌, true, false, List, [], ◌∷◌, length, take, drop, refl, sym, ap, ◌∙◌}
+use Rattle.std.proofs.Common.{◌≡◌, ℕ, suc, ◌+◌, true, false, List, [], ◌∷◌, Option, Some, None, take, drop, refl, sym, ap, ◌∙◌}
 use Rattle.std.proofs.Common.{arith}
 use Rattle.std.specs.Option.{option_or}
 use Rattle.std.proofs.lemmas.Bool.{eqb-true}
@@ -38,6 +38,29 @@ pub later_step : (name rest : List ℕ) (b : ℕ) (others : List ℕ) → rest �
     (first_behind name (later (drop (piece_len Bare others) others)))
 later_step name rest b others is = ap (λ r. first_behind name (later r)) is
     ∙ ap (first_behind name) (pieces_cut Bare others)
+
+-- ---- one piece more
+
+module _ (name rest : List ℕ) (b : ℕ) (others : List ℕ) (is : rest ≡ b ∷ others) (total : Option (List ℕ))
+    (before : total ≡ first_behind name (later rest)) (len : ℕ) (len_is : len ≡ piece_len Bare others)
+    (piece trimmed : List ℕ) (piece_is : piece ≡ take len others) (trimmed_is : trimmed ≡ trim_ows piece) where
+  step : total ≡ option_or (behind_name name trimmed) (first_behind name (later (drop len others)))
+  step =
+      before ∙ later_step name rest b others is
+      ∙ ap (λ n. option_or (behind_name name (trim_ows (take n others))) (first_behind name (later (drop n others))))
+          (sym len_is)
+      ∙ ap (λ p. option_or (behind_name name p) (first_behind name (later (drop len others))))
+          (sym (trimmed_is ∙ ap trim_ows piece_is))
+
+  pub found_here : (found : List ℕ) → Some found ≡ behind_name name trimmed → Some found ≡ total
+  found_here found is_found =
+      ap (λ o. option_or o (first_behind name (later (drop len others)))) is_found ∙ sym step
+
+  pub not_here : None ≡ behind_name name trimmed → (behind : List ℕ) → behind ≡ drop len others
+      → total ≡ first_behind name (later behind)
+  not_here none behind behind_is =
+      step ∙ ap (λ o. option_or o (first_behind name (later (drop len others)))) (sym none)
+      ∙ ap (λ r. first_behind name (later r)) (sym behind_is)
 
 -- ---- one byte more of the piece at the front
 

@@ -7,6 +7,7 @@ use Rattle.std.proofs.lemmas.List.{length-append}
 use Rattle.std.proofs.lemmas.Option.{same_Some}
 use Rattle.std.proofs.lemmas.List.Elements.{All-get_or, All-from_recursion}
 use Rattle.httparse.specs.Grammar.{Field, LineEnd, crlf as crlf_end, IsField, print_section, trim_ows, is_token_byte}
+use Rattle.httparse.specs.Grammar.{RequestHead}
 use Rattle.httparse.specs.Spans.{name_and_value}
 use Rattle.httparse.proofs.GrammarLemmas.{request_unique}
 use Rattle.http_wire.specs.Requests.{crlf, field_line}
@@ -91,10 +92,11 @@ body_size document =
 pub one_request : RequestsAreOne
 one_request bytes a b x y =
     let same = request_unique bytes x.head y.head a.body b.body x.reads y.reads in
-    let method : a.method ≡ b.method = x.method ∙ ap (λ h. h.method) same.0 ∙ sym y.method in
-    let target : a.target ≡ b.target = x.target ∙ ap (λ h. h.target) same.0 ∙ sym y.target in
-    let typed : a.content_type ≡ b.content_type =
-    x.typed ∙ ap (λ h. content_type (map name_and_value h.fields)) same.0 ∙ sym y.typed in
+    let method : a.method ≡ b.method = x.method ∙ ap (λ (h : RequestHead). h.method) same.0 ∙ sym y.method in
+    let target : a.target ≡ b.target = x.target ∙ ap (λ (h : RequestHead). h.target) same.0 ∙ sym y.target in
+    let kind : content_type (map name_and_value x.head.fields) ≡ content_type (map name_and_value y.head.fields) =
+        ap (λ (h : RequestHead). content_type (map name_and_value h.fields)) same.0 in
+    let typed : a.content_type ≡ b.content_type = x.typed ∙ kind ∙ sym y.typed in
     λ i. record { method = method i; target = target i; content_type = typed i; body = same.1 i }
 
 pub one_submission : SubmissionsAreOne
@@ -139,8 +141,7 @@ post_submits base document clean = record {
   posted = refl;
   boundary = codes "odk-part";
   typed = boundary_is;
-  part =
-      has_part document clean;
+  part = has_part document clean;
 }
 
 kind_text : IsUtf8 (codes "multipart/form-data; boundary=odk-part")
@@ -156,13 +157,10 @@ post_read base date document bytes visible short dated is =
     let target = target_visible base.target visible.target in
     let more : length (codes "/submission") ≡ 11 = refl in
     let some : 0 < length to.target = omega (arith, length-append base.target (codes "/submission"), more) in
+    let spelled = is ∙ head_spelled to date size (post_body document) in
     record {
       head = post_head to date size;
-      reads = (
-        head_is to date size some target visible.authority dated (omega arith),
-        is
-            ∙ head_spelled to date size (post_body document),
-      );
+      reads = (head_is to date size some target visible.authority dated (omega arith), spelled);
       few = lit≤ tt;
       method = refl;
       target = refl;

@@ -30,6 +30,6 @@ module _ (request : Request) where
     typed = sym typed;
     part = part;
   }
-  submits post boundary typed None none document has =
+  submits post boundary typed None none = λ document has.
       let same : has.boundary ≡ boundary = same_Some has.boundary boundary (sym has.typed ∙ sym typed) in
       none document (subst (λ b. HasPart (first_delimiter b) (delimiter b) request.body document) same has.part)

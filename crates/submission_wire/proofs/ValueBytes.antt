@@ -88,11 +88,12 @@ joined {a} {b} x y = record { all = All-append (λ c. IsTrue (is_value_byte c)) 
 -- a word of a table of words, or none past its end
 word_value : (words : List (List ℕ)) (i : ℕ) → list_all (list_all is_value_byte) words ≡ true
     → IsValue (get_or words i [])
-word_value words i all = elim (cases_lt i (length words)) [
-  inl within ↦ sign (get_or words i []) (All-get_or (λ w. IsTrue (list_all is_value_byte w)) words i [] within
-      (AllPass-from_list_all (list_all is_value_byte) words all))
-| inr past ↦ rw (get_or_past words i [] past) (record { all = All-nil (λ b. IsTrue (is_value_byte b)) })
-]
+word_value words i all =
+    elim (cases_lt i (length words)) [
+      inl within ↦ sign (get_or words i []) (All-get_or (λ w. IsTrue (list_all is_value_byte w)) words i [] within
+          (AllPass-from_list_all (list_all is_value_byte) words all))
+    | inr past ↦ rw (get_or_past words i [] past) (record { all = All-nil (λ b. IsTrue (is_value_byte b)) })
+    ]
 
 two_value : (n : ℕ) → n < 100 → IsValue (two_digits n)
 two_value n small = record {

@@ -23,7 +23,7 @@ fn behind_front<'a>(bytes: &'a [u8], start: &[u8]) -> Option<&'a [u8]>
 }
 
 fn is_document_name(name: Option<&[u8]>) -> bool
-    ensures { result ≡ spec.is_document_name (option_copied name) }
+    ensures { result ≡ spec.is_document_name (option_copied name.entry) }
 {
     match name {
         Some(name) => name == DOCUMENT_NAME,

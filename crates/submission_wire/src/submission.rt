@@ -29,7 +29,7 @@ fn delimiter(alloc: Global, boundary: &[u8]) -> Result<Vec<u8>, NoMemory>
 }
 
 fn copied(alloc: Global, bytes: Option<&[u8]>) -> Result<Option<Blob>, NoMemory>
-    ensures { IfOk result (λ blob. blob ≡ option_copied bytes) }
+    ensures { IfOk result (λ blob. blob ≡ option_copied bytes.entry) }
 {
     match bytes {
         Some(bytes) => Ok(Some(Blob::from_bytes(alloc, bytes)?)),
