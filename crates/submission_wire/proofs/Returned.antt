@@ -1,12 +1,12 @@
 -- A document comes back out of the request that submits it.
-use Rattle.std.proofs.Common.{◌≡◌, ◌≢◌, ℕ, ◌+◌, ◌<◌, ◌≤◌, ◌^◌, true, List, [], ◌∷◌, ◌++◌, length, map, All, IsUtf8}
+use Rattle.std.proofs.Common.{◌≡◌, ◌≢◌, ℕ, ◌+◌, ◌<◌, ◌^◌, List, [], ◌∷◌, ◌++◌, length, map, All, IsUtf8}
 use Rattle.std.proofs.Common.{codes, get_or, Option, Some, None, refl, sym, ap, subst, ◌∙◌, append_assoc}
 use Rattle.std.proofs.Common.{arith, lit<, lit≤}
 use Rattle.std.proofs.Math.ListN.{get_or-append}
 use Rattle.std.proofs.lemmas.List.{length-append}
 use Rattle.std.proofs.lemmas.Option.{same_Some}
 use Rattle.std.proofs.lemmas.List.Elements.{All-get_or, All-from_recursion}
-use Rattle.httparse.specs.Grammar.{Field, LineEnd, crlf as crlf_end, IsField, print_section, trim_ows, is_token_byte}
+use Rattle.httparse.specs.Grammar.{Field, crlf as crlf_end, IsField, print_section, trim_ows, is_token_byte}
 use Rattle.httparse.specs.Grammar.{RequestHead}
 use Rattle.httparse.specs.Spans.{name_and_value}
 use Rattle.httparse.proofs.GrammarLemmas.{request_unique}
@@ -17,8 +17,8 @@ use Rattle.http_request.specs.Requests.{IsRequest, ReadsAs, content_type}
 use Rattle.memchr.specs.Find.{OccursAt}
 use Rattle.submission_wire.specs.Parameters.{kind_of, parameter, form_boundary}
 use Rattle.submission_wire.specs.Parts.{HasPart, HasContent, first_delimiter, delimiter}
-use Rattle.submission_wire.specs.Posts.{submission_address, part_head, part_end, post_body, post_request, IsPost}
-use Rattle.submission_wire.specs.Returns.{IsVisibleAddress, IsSendable, ComesBack, RequestsAreOne, SubmissionsAreOne}
+use Rattle.submission_wire.specs.Posts.{submission_address, part_head, part_end, post_body, post_request}
+use Rattle.submission_wire.specs.Returns.{IsVisibleAddress, ComesBack, RequestsAreOne, SubmissionsAreOne}
 use Rattle.submission_wire.specs.Returns.{DocumentsReturn}
 use Rattle.submission_wire.specs.Submissions.{IsSubmission, Submits}
 use Rattle.submission_wire.proofs.Closing.{part_unique}

@@ -9,7 +9,7 @@ use Rattle.std.specs.Str.Parse.{AllDigits, digits_value}
 use Rattle.std.proofs.lemmas.Bool.{cases_lt, lt-ltb, le-leb, ne_eqb}
 use Rattle.std.proofs.lemmas.Fmt.{digits_decimal}
 use Rattle.std.proofs.lemmas.List.{get_or_past}
-use Rattle.std.proofs.lemmas.List.Elements.{All-nil, All-cons, All-append, All-head, All-get_or, All-from_get_or}
+use Rattle.std.proofs.lemmas.List.Elements.{All-nil, All-append, All-head, All-get_or, All-from_get_or}
 use Rattle.std.proofs.lemmas.List.Elements.{All-weaker, All-from_recursion}
 use Rattle.std.proofs.lemmas.List.Sums.{AllPass-from_list_all}
 use Rattle.std.proofs.lemmas.Str.Parse.{IsNumeralModel, digit_at}
@@ -112,12 +112,21 @@ month_short y m =
     thirty true = omega arith
     thirty false = omega arith
 
+abbrev days : List (List ℕ)
+days =
+    codes "Mon" ∷ codes "Tue" ∷ codes "Wed" ∷ codes "Thu" ∷ codes "Fri" ∷ codes "Sat" ∷ codes "Sun" ∷ []
+
+abbrev months : List (List ℕ)
+months =
+    codes "Jan" ∷ codes "Feb" ∷ codes "Mar" ∷ codes "Apr" ∷ codes "May" ∷ codes "Jun"
+    ∷ codes "Jul" ∷ codes "Aug" ∷ codes "Sep" ∷ codes "Oct" ∷ codes "Nov" ∷ codes "Dec" ∷ []
+
 day_value : (p : Parts) → p.day ≤ days_in_month p.year p.mon
     → IsValue (day_name p.wday ++ codes ", " ++ two_digits p.day ++ codes " " ++ month_name p.mon ++ codes " ")
 day_value p most =
     let day = two_value p.day (omega (arith, most, month_short p.year p.mon)) in
-    let name : IsValue (day_name p.wday) = word_value _ (p.wday - 1) refl in
-    let month : IsValue (month_name p.mon) = word_value _ (p.mon - 1) refl in
+    let name : IsValue (day_name p.wday) = word_value days (p.wday - 1) refl in
+    let month : IsValue (month_name p.mon) = word_value months (p.mon - 1) refl in
     let gap = sign (codes " ") refl in
     joined (joined (joined (joined (joined name (sign (codes ", ") refl)) day) gap) month) gap
 

@@ -1,5 +1,5 @@
 -- Submissions (RFC 7578): any request submits one document, or none.
-use Rattle.std.specs.Prelude.{◌≡◌, ℕ, List, codes, Option, Some, None}
+use Rattle.std.specs.Prelude.{◌≡◌, ℕ, List, codes, Option, Some}
 use Rattle.http_request.specs.declared.request.Request.{Request}
 use Rattle.submission_wire.specs.Parameters.{form_boundary}
 use Rattle.submission_wire.specs.Parts.{HasPart, IsOneOrNone, first_delimiter, delimiter}

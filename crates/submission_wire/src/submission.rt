@@ -1,13 +1,19 @@
 //! The document that a request submits.
-ghost use Rattle.std.specs.Prelude.{◌≡◌, IfOk, option_copied};
+ghost use Rattle.std.specs.Prelude.{◌≡◌, IfOk, bytes_eq, codes, option_copied};
 ghost use Rattle.submission_wire.specs.Parts as spec;
 ghost use Rattle.submission_wire.specs.Submissions.{Submits};
 
 use crate::parameters::form_boundary;
 use crate::part::document_in;
-use field_text::{Blob, NoMemory};
+use field_text::{Blob, NoMemory, Text};
 use http_request::Request;
 use std::alloc::Global;
+
+fn is_post(method: &Text) -> bool
+    ensures { result ≡ bytes_eq method.now (codes "POST") }
+{
+    method.as_str() == "POST"
+}
 
 // The line that opens the first part.
 fn first_delimiter(alloc: Global, boundary: &[u8]) -> Result<Vec<u8>, NoMemory>
@@ -42,7 +48,7 @@ fn copied(alloc: Global, bytes: Option<&[u8]>) -> Result<Option<Blob>, NoMemory>
 pub fn read_submission(alloc: Global, request: &Request) -> Result<Option<Blob>, NoMemory>
     ensures { IfOk result (Submits request.now) }
 {
-    if request.method.as_str() != "POST" {
+    if !is_post(&request.method) {
         return Ok(None);
     }
     let Some(boundary) = form_boundary(request.content_type.bytes()) else {
