@@ -137,7 +137,7 @@ module _ (opening ending body : List ℕ) where
   }
   closed_part part content opened headed None none = λ document has.
       let there : HasContent part has.content =
-          subst (λ p. HasContent p has.content) (part_is part opened document has) has.headed in
+      subst (λ p. HasContent p has.content) (part_is part opened document has) has.headed in
       let same : has.content ≡ content = content_unique part has.content content there headed in
       none document (subst (λ c. IsClosed ending c document) same has.closes)
 
@@ -158,7 +158,7 @@ pub front_cut : (bytes start : List ℕ) (rest : Option (Bor (List ℕ)))
 front_cut bytes start None other = λ behind is.
     let seam : take (length start) bytes ≡ start = ap (take (length start)) is ∙ take-append_seam start behind in
     let same : bytes_eq (take (length start) bytes) start ≡ true =
-        (bytes_eq-Decides (take (length start) bytes) start).1 seam in
+    (bytes_eq-Decides (take (length start) bytes) start).1 seam in
     cc
 front_cut bytes start (Some x) (same, rest_is, sizes) =
     let seam : take (length start) bytes ≡ start = (bytes_eq-Decides (take (length start) bytes) start).0 same in

@@ -48,9 +48,9 @@ module _ (name rest : List ℕ) (b : ℕ) (others : List ℕ) (is : rest ≡ b �
   step =
       before ∙ later_step name rest b others is
       ∙ ap (λ n. option_or (behind_name name (trim_ows (take n others))) (first_behind name (later (drop n others))))
-          (sym len_is)
+      (sym len_is)
       ∙ ap (λ p. option_or (behind_name name p) (first_behind name (later (drop len others))))
-          (sym (trimmed_is ∙ ap trim_ows piece_is))
+      (sym (trimmed_is ∙ ap trim_ows piece_is))
 
   pub found_here : (found : List ℕ) → Some found ≡ behind_name name trimmed → Some found ≡ total
   found_here found is_found =

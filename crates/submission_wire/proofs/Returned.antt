@@ -48,7 +48,7 @@ not_inside : (document end : List ℕ) (k : ℕ) → All (λ b. b ≢ 13) docume
 not_inside document end k clean within occurs =
     let same : k + 0 ≡ k = omega arith in
     let here : get_or (document ++ end) k 0 ≡ 13 =
-        subst (λ n. get_or (document ++ end) n 0 ≡ 13) same (occurs.reads 0 (lit< tt)) in
+    subst (λ n. get_or (document ++ end) n 0 ≡ 13) same (occurs.reads 0 (lit< tt)) in
     All-get_or (λ b. b ≢ 13) document k 0 within clean (sym (get_or-append document end 0 k within) ∙ here)
 
 content_headed : (document : List ℕ)
@@ -95,7 +95,7 @@ one_request bytes a b x y =
     let method : a.method ≡ b.method = x.method ∙ ap (λ (h : RequestHead). h.method) same.0 ∙ sym y.method in
     let target : a.target ≡ b.target = x.target ∙ ap (λ (h : RequestHead). h.target) same.0 ∙ sym y.target in
     let kind : content_type (map name_and_value x.head.fields) ≡ content_type (map name_and_value y.head.fields) =
-        ap (λ (h : RequestHead). content_type (map name_and_value h.fields)) same.0 in
+    ap (λ (h : RequestHead). content_type (map name_and_value h.fields)) same.0 in
     let typed : a.content_type ≡ b.content_type = x.typed ∙ kind ∙ sym y.typed in
     λ i. record { method = method i; target = target i; content_type = typed i; body = same.1 i }
 

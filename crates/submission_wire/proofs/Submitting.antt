@@ -44,11 +44,11 @@ pub submitted : {E : Type 0} (request : Request) (boundary opening ending body k
     → IfOk copied (Submits request)
 submitted request boundary opening ending body kind found copied post kind_is typed opening_is ending_is body_is part =
     let opened : IsOneOrNone (HasPart (first_delimiter boundary) ending body) found =
-        subst (λ o. IsOneOrNone (HasPart o ending body) found) opening_is part in
+    subst (λ o. IsOneOrNone (HasPart o ending body) found) opening_is part in
     let ended : IsOneOrNone (HasPart (first_delimiter boundary) (delimiter boundary) body) found =
-        subst (λ e. IsOneOrNone (HasPart (first_delimiter boundary) e body) found) ending_is opened in
+    subst (λ e. IsOneOrNone (HasPart (first_delimiter boundary) e body) found) ending_is opened in
     let here : IsOneOrNone (HasPart (first_delimiter boundary) (delimiter boundary) request.body) found =
-        subst (λ b. IsOneOrNone (HasPart (first_delimiter boundary) (delimiter boundary) b) found) body_is ended in
+    subst (λ b. IsOneOrNone (HasPart (first_delimiter boundary) (delimiter boundary) b) found) body_is ended in
     let told : Submits request found =
-        submits request (sym post) boundary (typed ∙ ap form_boundary kind_is) found here in
+    submits request (sym post) boundary (typed ∙ ap form_boundary kind_is) found here in
     IfOk-weaker copied (λ blob. blob ≡ found) (Submits request) (λ blob is. subst (Submits request) (sym is) told)

@@ -37,9 +37,11 @@ uri_byte b within = rw (lt-ltb 32 b (omega (arith, within.0)), ne_eqb b 127 (λ 
 
 pub visible_value : (bytes : List ℕ) → All (IsInRange 33 126) bytes → IsValue bytes
 visible_value bytes all =
-    record { all =
-    All-weaker (IsInRange 33 126) (λ b. IsTrue (is_value_byte b)) (λ b within. value_byte b (omega (arith, within.0))
-    (omega (arith, within.1))) bytes all }
+    record {
+      all =
+          All-weaker (IsInRange 33 126) (λ b. IsTrue (is_value_byte b)) (λ b within. value_byte b (omega (arith, within.0))
+          (omega (arith, within.1))) bytes all;
+    }
 
 -- ---- decimals
 
@@ -53,9 +55,11 @@ digits_of n small =
 
 pub decimal_value : (n : ℕ) → n < 2 ^ 64 → IsValue (decimal n)
 decimal_value n small =
-    record { all =
-    All-weaker (IsInRange 48 57) (λ b. IsTrue (is_value_byte b)) (λ b within. value_byte b (omega (arith, within.0))
-    (omega (arith, within.1))) (decimal n) (digits_of n small) }
+    record {
+      all =
+          All-weaker (IsInRange 48 57) (λ b. IsTrue (is_value_byte b)) (λ b within. value_byte b (omega (arith, within.0))
+          (omega (arith, within.1))) (decimal n) (digits_of n small);
+    }
 
 is_other : ℕ → Bool
 is_other b = not (is_ows b)
@@ -75,7 +79,7 @@ pub decimal_trimmed : (n : ℕ) → n < 2 ^ 64 → trim_ows (32 ∷ decimal n) �
 decimal_trimmed n small =
     let all = All-weaker (IsInRange 48 57) (λ b. IsTrue (is_other b)) other_byte (decimal n) (digits_of n small) in
     trim_ows_space (decimal n) (no_skip (decimal n) all)
-        (no_skip (reverse (decimal n)) (AllPass-reverse is_other (decimal n) all))
+    (no_skip (reverse (decimal n)) (AllPass-reverse is_other (decimal n) all))
 
 -- ---- dates
 
@@ -90,16 +94,17 @@ word_value : (words : List (List ℕ)) (i : ℕ) → list_all (list_all is_value
     → IsValue (get_or words i [])
 word_value words i all =
     elim (cases_lt i (length words)) [
-      inl within ↦ sign (get_or words i []) (All-get_or (λ w. IsTrue (list_all is_value_byte w)) words i [] within
+      | inl within ↦ sign (get_or words i []) (All-get_or (λ w. IsTrue (list_all is_value_byte w)) words i [] within
           (AllPass-from_list_all (list_all is_value_byte) words all))
-    | inr past ↦ rw (get_or_past words i [] past) (record { all = All-nil (λ b. IsTrue (is_value_byte b)) })
+      | inr past ↦ rw (get_or_past words i [] past) (record { all = All-nil (λ b. IsTrue (is_value_byte b)) })
     ]
 
 two_value : (n : ℕ) → n < 100 → IsValue (two_digits n)
 two_value n small = record {
-  all = All-from_recursion (λ b. IsTrue (is_value_byte b)) (two_digits n)
-      (value_byte (48 + n / 10) (omega arith) (omega arith),
-      (value_byte (48 + n % 10) (omega arith) (omega arith), tt));
+  all = All-from_recursion (λ b. IsTrue (is_value_byte b)) (two_digits n) (
+    value_byte (48 + n / 10) (omega arith) (omega arith),
+    (value_byte (48 + n % 10) (omega arith) (omega arith), tt),
+  );
 }
 
 month_short : (y m : ℕ) → days_in_month y m ≤ 31
@@ -134,7 +139,7 @@ time_value : (p : Parts) → p.hour < 24 → p.min < 60 → p.sec < 60 → IsVal
 time_value p hour min sec =
     let colon = sign (codes ":") refl in
     joined (joined (joined (joined (two_value p.hour (omega arith)) colon) (two_value p.min (omega arith))) colon)
-        (two_value p.sec (omega arith))
+    (two_value p.sec (omega arith))
 
 year_value : (y : ℕ) → y ≤ 9999 → IsValue (four_digits y)
 year_value y most = joined (two_value (y / 100) (omega arith)) (two_value (y % 100) (omega arith))

@@ -16,14 +16,14 @@ pub returns-in-Some-behind_name : goal.returns-in-Some-behind_name
 returns-in-Some-behind_name c =
     let name = c.args.name.now in
     found_here name c.pieces.rest.now c.in-Some.field-0-0.now c.in-Some.others.now c.in-Some.ensures.cases.0
-        (parameter name c.args.value.now) c.pieces.invariant c.piece_len-len.result c.piece_len-len.ensures.value
-        c.front.result.now c.trimmed.result.now c.front.ensures c.trimmed.ensures c.in-Some-behind_name.found.now
-        c.in-Some-behind_name.ensures
+    (parameter name c.args.value.now) c.pieces.invariant c.piece_len-len.result c.piece_len-len.ensures.value
+    c.front.result.now c.trimmed.result.now c.front.ensures c.trimmed.ensures c.in-Some-behind_name.found.now
+    c.in-Some-behind_name.ensures
 
 pub pieces-preserved : goal.pieces-preserved
 pieces-preserved c =
     let name = c.args.name.now in
     not_here name c.pieces.rest.now c.in-Some.field-0-0.now c.in-Some.others.now c.in-Some.ensures.cases.0
-        (parameter name c.args.value.now) c.pieces.invariant c.piece_len-len.result c.piece_len-len.ensures.value
-        c.front.result.now c.trimmed.result.now c.front.ensures c.trimmed.ensures c.in_default-behind_name.ensures
-        c.behind-rest-in-Some.result.now c.behind-rest-in-Some.ensures
+    (parameter name c.args.value.now) c.pieces.invariant c.piece_len-len.result c.piece_len-len.ensures.value
+    c.front.result.now c.trimmed.result.now c.front.ensures c.trimmed.ensures c.in_default-behind_name.ensures
+    c.behind-rest-in-Some.result.now c.behind-rest-in-Some.ensures

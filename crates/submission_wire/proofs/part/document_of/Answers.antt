@@ -9,10 +9,10 @@ pub returns-then-is_last_tail : goal.returns-then-is_last_tail
 returns-then-is_last_tail c =
     let tail = c.behind.result.now in
     closed_at c.args.content.now c.args.ending.now c.in-Some.at c.in-Some.ensures tail c.behind.ensures
-        c.if-is_last_tail.ensures c.front.result.now c.front.ensures
+    c.if-is_last_tail.ensures c.front.result.now c.front.ensures
 
 pub returns : goal.returns
 returns c =
     let tail = c.behind.result.now in
     not_closed c.args.content.now c.args.ending.now c.in-Some.at c.in-Some.ensures tail c.behind.ensures
-        c.if-is_last_tail.ensures
+    c.if-is_last_tail.ensures
