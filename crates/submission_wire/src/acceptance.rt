@@ -5,8 +5,8 @@ ghost use Rattle.submission_wire.specs.Acceptance.{is_accepted};
 
 use http_reply::read_reply;
 
-/// Whether these bytes, as a reply, say that the server has the submission: the status of the final head is 201 or 202,
-/// whatever the body and its framing.
+/// Whether these bytes, as a reply, say that the server has the submission: their final head has the status 201 or 202.
+/// Its body isn't asked, nor where it ends.
 pub fn accepted(bytes: &[u8]) -> bool
     ensures { (reply : Reply) × IsReply bytes.now reply × (result ≡ is_accepted reply) }
 {
