@@ -17,7 +17,7 @@ use Rattle.collect_text.specs.declared.line.Line.{Line}
 use Rattle.collect_text.specs.declared.line.Line.TheVariants.{Give}
 use Rattle.collect_script.specs.declared.stop.ScriptStop.{ScriptStop}
 use Rattle.collect_script.specs.declared.stop.ScriptStop.TheVariants as stops
-use Rattle.collect_script.specs.Answering.{LineAnswered, LineStops, Says, SaysNothing, accepts, cut, failed, faulted, full, hides, not_built, quits, refuses, shows, silent, skips, starved}
+use Rattle.collect_script.specs.Answering.{LineAnswered, LineStops, Says, SaysNothing, accepts, bad, cut, failed, faulted, full, hides, not_built, quits, refuses, shows, silent, skips, starved}
 use Rattle.collect_script.specs.Ends.{CantAnswer, IsFullLine, IsSettled, Puts, Streams}
 use Rattle.collect_script.specs.Ends as ends
 use Rattle.collect_script.specs.Transcript.{MayAdd, Transcript, of_script}
@@ -67,6 +67,7 @@ says_moves old new line text (refuses command position why h other printed) = (r
 says_moves old new line text (shows query told h printed) = (record { added = h.looks.others.added; grows = h.looks.others.grows }, h.looks.rest)
 says_moves old new line text (hides query position why h other printed) = (record { added = h.looks.others.added; grows = h.looks.others.grows }, h.looks.rest)
 says_moves old new line text (quits query told h printed) = (record { added = h.looks.others.added; grows = h.looks.others.grows }, h.looks.rest)
+says_moves old new line text (bad query told h printed) = (record { added = h.looks.others.added; grows = h.looks.others.grows }, h.looks.rest)
 says_moves old new line text (not_built query told h printed) = (record { added = h.looks.others.added; grows = h.looks.others.grows }, h.looks.rest)
 
 pub nothing_moves : (old new : CallerView) (line : Line) (stop : ScriptStop) → SaysNothing old new line stop → Moves old new

@@ -6,11 +6,11 @@ use Rattle.std.proofs.lemmas.List.Elements.{filter-append}
 use Rattle.std.proofs.Math.ListN.{length-drop}
 use Rattle.entry_form.specs.declared.entry.Entry.{Entry}
 use Rattle.entry_form.specs.declared.hand.Hand.TheVariants.{Script}
-use Rattle.device_rules.specs.declared.state.State.{State}
+use Rattle.device_state.specs.declared.state.State.{State}
 use Rattle.device_rules.specs.Caller.{is_of}
 use Rattle.device_rules.specs.Trail.{replay}
 use Rattle.collect_text.specs.declared.line.Line.{Line}
-use Rattle.collect_text.specs.declared.line.Line.TheVariants.{Skipped, Quit, NotBuilt, Look, Give}
+use Rattle.collect_text.specs.declared.line.Line.TheVariants.{Skipped, Bad, NotBuilt, Quit, Look, Give}
 use Rattle.collect_script.specs.Transcript.{of_script, AllAnswered, Follows, HasPrinted, IsStateAt, Transcript}
 
 -- ---- entries of the script among those of all hands
@@ -122,6 +122,7 @@ module _ (start : State) (entries more : List Entry) where
     printed = h.printed;
   })
   printed_grow last Quit position piece h = record { follows = follows_grow last position h.follows; printed = h.printed }
+  printed_grow last Bad position piece h = record { follows = follows_grow last position h.follows; printed = h.printed }
   printed_grow last NotBuilt position piece h = record { follows = follows_grow last position h.follows; printed = h.printed }
 
   -- a transcript stays one when entries come behind

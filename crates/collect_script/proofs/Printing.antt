@@ -8,8 +8,8 @@ use Rattle.entry_form.specs.declared.entry.Entry.TheVariants.{Done}
 use Rattle.entry_form.specs.declared.hand.Hand.{Hand}
 use Rattle.entry_form.specs.declared.hand.Hand.TheVariants.{Script}
 use Rattle.device_rules.specs.declared.refused.Refused.{Refused}
-use Rattle.device_rules.specs.declared.refused.Refused.TheVariants.{BadValue, Limit, NoMemory, NotBuilt as NoSuch}
-use Rattle.device_rules.specs.declared.state.State.{State}
+use Rattle.device_rules.specs.declared.refused.Refused.TheVariants as refusals
+use Rattle.device_state.specs.declared.state.State.{State}
 use Rattle.device_rules.specs.declared.told.Told.{Told}
 use Rattle.field_text.specs.Steps.{Tells}
 use Rattle.device_rules.specs.declared.answer.Query.{Query}
@@ -21,8 +21,8 @@ use Rattle.device_rules.specs.Refused.{rule_of}
 use Rattle.device_rules.specs.Step.{step, IsRefused}
 use Rattle.device_rules.specs.Trail.{replay}
 use Rattle.collect_text.specs.declared.line.Line.{Line}
-use Rattle.collect_text.specs.declared.line.Line.TheVariants.{Skipped, Quit, NotBuilt, Look, Give}
-use Rattle.collect_script.specs.Answering.{Adds, Says, skips, accepts, refuses, shows, hides, quits, not_built}
+use Rattle.collect_text.specs.declared.line.Line.TheVariants.{Skipped, Bad, NotBuilt, Quit, Look, Give}
+use Rattle.collect_script.specs.Answering.{Adds, Says, skips, accepts, refuses, shows, hides, quits, bad, not_built}
 use Rattle.collect_script.specs.Transcript.{of_script, MayAdd, AllAnswered, Follows, HasPrinted, IsStateAt}
 use Rattle.collect_script.proofs.Histories.{answered_grow, answered_later, behind_added, follows_grow, follows_quiet, slice_get_middle}
 
@@ -31,11 +31,24 @@ follows_in : (start : State) (front more : List Entry) (last : ℕ) → last ≤
 follows_in start front more last low quiet = follows_grow start front more last (length front) (follows_quiet start front last (length front) low (omega arith) quiet)
 
 -- a refusal other than want of memory is the rules'
-told_by_rules : {T : Type 0} (why : Refused) (result : Result T Refused) → why ≢ NoMemory → Tells (rule_of why) result → result ≡ Err why
-told_by_rules BadValue result other tells = tells
-told_by_rules (Limit which number) result other tells = tells
-told_by_rules NoMemory result other tells = absurd (other refl)
-told_by_rules NoSuch result other tells = tells
+told_by_rules : {T : Type 0} (why : Refused) (result : Result T Refused) → why ≢ refusals.NoMemory → Tells (rule_of why) result → result ≡ Err why
+told_by_rules refusals.BadValue result other tells = tells
+told_by_rules refusals.NoForm result other tells = tells
+told_by_rules refusals.NoVersion result other tells = tells
+told_by_rules refusals.NoInstance result other tells = tells
+told_by_rules refusals.NoEntry result other tells = tells
+told_by_rules refusals.EntryThere result other tells = tells
+told_by_rules refusals.SavepointThere result other tells = tells
+told_by_rules refusals.NoSavepoint result other tells = tells
+told_by_rules (refusals.WrongStatus status) result other tells = tells
+told_by_rules (refusals.HasEdit number) result other tells = tells
+told_by_rules (refusals.InUse number) result other tells = tells
+told_by_rules (refusals.Answer why) result other tells = tells
+told_by_rules (refusals.FormRefused why) result other tells = tells
+told_by_rules (refusals.OtherBytes kept new) result other tells = tells
+told_by_rules (refusals.Limit which number) result other tells = tells
+told_by_rules refusals.NoMemory result other tells = absurd (other refl)
+told_by_rules refusals.NotBuilt result other tells = tells
 
 -- the line has printed its text at a position behind which nothing of the script's is
 pub record IsPrinted (view : CallerView) (last : ℕ) (line : Line) (text : List ℕ) : Type 0 where
@@ -153,6 +166,7 @@ module _ (old new : CallerView) (hand : old.hand ≡ Script) (last : ℕ) (withi
         printed = printed;
       }))
   says_printed Quit text (quits query told h printed) = shown_at query told h Quit text (record { follows = shown_follows query told h; printed = printed })
+  says_printed Bad text (bad query told h printed) = shown_at query told h Bad text (record { follows = shown_follows query told h; printed = printed })
   says_printed NotBuilt text (not_built query told h printed) = shown_at query told h NotBuilt text (record { follows = shown_follows query told h; printed = printed })
 
   -- what a line that isn't answered adds is all that is the script's behind the last answer

@@ -13,10 +13,10 @@ use Rattle.device_rules.specs.declared.told.Told.{Told}
 use Rattle.device_rules.specs.Caller.{CallerView, Accepts, AddsOthers, IsCallFault, IsLookFault, SameRest, Shows, is_of, of_hand}
 use Rattle.collect_text.specs.Answers.{IsWord, printed_word}
 use Rattle.collect_text.specs.declared.line.Line.{Line}
-use Rattle.collect_text.specs.declared.line.Line.TheVariants.{Skipped, Quit, NotBuilt, Look, Give}
+use Rattle.collect_text.specs.declared.line.Line.TheVariants.{Skipped, Bad, NotBuilt, Quit, Look, Give}
 use Rattle.collect_script.specs.declared.stop.ScriptStop.{ScriptStop}
 use Rattle.collect_script.specs.declared.stop.ScriptStop.TheVariants as stops
-use Rattle.collect_script.specs.Answering.{Adds, FaultStop, FaultText, Says, SaysNothing, refuses, hides, quits, not_built, starved, full, faulted, failed}
+use Rattle.collect_script.specs.Answering.{Adds, FaultStop, FaultText, Says, SaysNothing, refuses, hides, quits, bad, not_built, starved, full, faulted, failed}
 use Rattle.collect_script.specs.Transcript.{MayAdd}
 
 pub if_err : {T E : Type 0} (result : Result T E) (P Q : E → Type 0) → ((e : E) → P e → Q e) → IfErr result P → IfErr result Q
@@ -31,6 +31,7 @@ if_ok (Err e) P Q f holds = tt
 pub may_none : (line : Line) (added : List Entry) → added ≡ [] → MayAdd line added
 may_none Skipped added none = none
 may_none Quit added none = none
+may_none Bad added none = none
 may_none NotBuilt added none = none
 may_none (Look query) added none = none
 may_none (Give command) added none = inl none
@@ -46,6 +47,7 @@ own_alone before after command none_before none_after =
 pub word_says : (old new : CallerView) (query : Query) (told : Told) (line : Line) (text : List ℕ) → IsWord line → Shows old new query told
     → text ≡ printed_word told.position line → Says old new text line
 word_says old new query told Quit text word h printed = quits query told h printed
+word_says old new query told Bad text word h printed = bad query told h printed
 word_says old new query told NotBuilt text word h printed = not_built query told h printed
 word_says old new query told Skipped text word h printed = absurd word
 word_says old new query told (Look other) text word h printed = absurd word

@@ -6,7 +6,7 @@ use Rattle.std.proofs.lemmas.List.Folds.{list_all-append}
 use Rattle.field_io.specs.Causes.{Rose}
 use Rattle.entry_form.specs.declared.entry.Entry.{Entry}
 use Rattle.entry_form.specs.declared.hand.Hand.TheVariants.{Script}
-use Rattle.device_rules.specs.declared.state.State.{State}
+use Rattle.device_state.specs.declared.state.State.{State}
 use Rattle.device_rules.specs.Caller.{CallerView, Grows, IsCommand}
 use Rattle.line_io.specs.Output.{Gained}
 use Rattle.line_io.specs.Reader.{Gives, GivesNext, HasEnded, Input, IsKept, ReaderView, StopsReading, line, last, none, failed, starved, long_line, long_script}

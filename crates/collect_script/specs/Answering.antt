@@ -1,5 +1,6 @@
 -- What one line does over a caller, and what it prints.
-use Rattle.std.specs.Prelude.{◌≡◌, ◌≢◌, ◌⊎◌, ℕ, List, [], length, Option, Result, Ok, Err}
+use Rattle.std.specs.Prelude.{◌≡◌, ◌≢◌, ◌⊎◌, ℕ, List, [], length, Bool, true, false, Option, Result, Ok}
+use Rattle.std.specs.Prelude.{Err}
 use Rattle.field_io.specs.Causes.{Rose}
 use Rattle.entry_form.specs.declared.command.Command.{Command}
 use Rattle.entry_form.specs.declared.entry.Entry.{Entry}
@@ -18,7 +19,7 @@ use Rattle.collect_text.specs.Answers.{printed_answer, printed_word}
 use Rattle.collect_text.specs.Line.{line_shape}
 use Rattle.collect_text.specs.Refusals.{printed_refused}
 use Rattle.collect_text.specs.declared.line.Line.{Line}
-use Rattle.collect_text.specs.declared.line.Line.TheVariants.{Skipped, Quit, NotBuilt, Look, Give}
+use Rattle.collect_text.specs.declared.line.Line.TheVariants.{Skipped, Bad, NotBuilt, Quit, Look, Give}
 use Rattle.collect_script.specs.declared.stop.ScriptStop.{ScriptStop}
 use Rattle.collect_script.specs.declared.stop.ScriptStop.TheVariants as stops
 use Rattle.collect_script.specs.Ends.{AnswersScript, ScriptEnd, Streams}
@@ -47,6 +48,8 @@ module _ (old new : CallerView) where
         → text ≡ printed_refused position why → Says text (Look query)
     quits : (query : Query) (told : Told) → Shows old new query told → text ≡ printed_word told.position Quit
         → Says text Quit
+    bad : (query : Query) (told : Told) → Shows old new query told → text ≡ printed_word told.position Bad
+        → Says text Bad
     not_built : (query : Query) (told : Told) → Shows old new query told → text ≡ printed_word told.position NotBuilt
         → Says text NotBuilt
 
@@ -76,6 +79,11 @@ module _ (old new : CallerView) where
         → LineStops line held_old held_new before now stop
     cut : (text front : List ℕ) → Says text line → IsCut front text → Gained held_old held_new front → Rose before now
         → LineStops line held_old held_new before now stops.WriteFault
+
+-- want of memory is no refusal of the rules
+abbrev pub is_no_memory : Refused → Bool
+is_no_memory NoMemory = true
+is_no_memory why = false
 
 -- the refusal that a fault of a call is printed as, if it is one
 abbrev pub FaultText : SubmitFault → List ℕ → Type 0

@@ -6,7 +6,7 @@ use Rattle.entry_form.specs.declared.entry.Entry.{Entry}
 use Rattle.entry_form.specs.declared.entry.Entry.TheVariants.{Done}
 use Rattle.entry_form.specs.declared.hand.Hand.TheVariants.{Script}
 use Rattle.entry_codec.specs.Spelling.{spelling}
-use Rattle.device_rules.specs.declared.state.State.{State}
+use Rattle.device_state.specs.declared.state.State.{State}
 use Rattle.device_rules.specs.Limits.{largest_journal}
 use Rattle.line_io.specs.Output.{Gained, IsCut}
 use Rattle.line_io.specs.Script.{IsUncut}

@@ -8,7 +8,7 @@ use Rattle.entry_form.specs.declared.hand.Hand.TheVariants.{Script}
 use Rattle.device_rules.specs.declared.answer.Answer.{Answer}
 use Rattle.device_rules.specs.declared.answer.Query.{Query}
 use Rattle.device_rules.specs.declared.refused.Refused.{Refused}
-use Rattle.device_rules.specs.declared.state.State.{State}
+use Rattle.device_state.specs.declared.state.State.{State}
 use Rattle.device_rules.specs.Answers.{answer_to}
 use Rattle.device_rules.specs.Caller.{of_hand}
 use Rattle.device_rules.specs.Step.{step}
@@ -17,7 +17,7 @@ use Rattle.collect_text.specs.Answers.{printed_answer, printed_word}
 use Rattle.collect_text.specs.Line.{line_shape}
 use Rattle.collect_text.specs.Refusals.{printed_refused}
 use Rattle.collect_text.specs.declared.line.Line.{Line}
-use Rattle.collect_text.specs.declared.line.Line.TheVariants.{Skipped, Quit, NotBuilt, Look, Give}
+use Rattle.collect_text.specs.declared.line.Line.TheVariants.{Skipped, Bad, NotBuilt, Quit, Look, Give}
 
 -- the script's commands among the entries
 abbrev pub of_script : List Entry → List Entry
@@ -91,6 +91,7 @@ module _ (start : State) (entries : List Entry) where
       IsAccepted last command position piece ⊎ IsRefusedAt last command position piece
   HasPrinted last (Look query) position piece = IsTold last query position piece ⊎ IsUntold last query position piece
   HasPrinted last Quit position piece = IsSaid last Quit position piece
+  HasPrinted last Bad position piece = IsSaid last Bad position piece
   HasPrinted last NotBuilt position piece = IsSaid last NotBuilt position piece
 
   -- What the lines have printed one after another, from the last position printed before them to that after them.

@@ -5,7 +5,7 @@ ghost use Rattle.collect_text.specs.Answers.{IsWord, printed_answer, printed_wor
 ghost use Rattle.collect_text.specs.Line.{line_shape};
 ghost use Rattle.collect_text.specs.Refusals.{printed_refused};
 ghost use Rattle.collect_text.specs.declared.line.Line.{Line};
-ghost use Rattle.collect_script.specs.Answering.{FaultStop, FaultText, Says, SaysNothing};
+ghost use Rattle.collect_script.specs.Answering.{FaultStop, FaultText, Says, SaysNothing, is_no_memory};
 ghost use Rattle.entry_form.specs.declared.hand.Hand.{Hand};
 
 use crate::ScriptStop;
@@ -23,50 +23,56 @@ fn answer_text(alloc: Global, told: Told, shape: &Shape) -> Result<Vec<u8>, NoMe
     Ok(text)
 }
 
-fn word_text(alloc: Global, position: u64, line: &Line) -> Result<Vec<u8>, NoMemory>
+fn word_text(alloc: Global, told: Told, line: &Line) -> Result<Vec<u8>, NoMemory>
     requires { IsWord line.now }
-    ensures { IfOk result (λ text. text.items ≡ printed_word position line.now) }
+    ensures { IfOk result (λ text. text.items ≡ printed_word told.position line.now) }
 {
     let mut text = Vec::new(alloc);
-    print_word(alloc, position, line, &mut text)?;
+    print_word(alloc, told.position, line, &mut text)?;
     Ok(text)
 }
 
-// The line of a refusal other than want of memory.
-fn refusal_text(alloc: Global, position: u64, why: Refused) -> Result<Vec<u8>, NoMemory>
-    ensures text { IfOk result (λ text. text.items ≡ printed_refused position why) }
-    ensures told { IfOk result (λ _. why ≢ Refused.NoMemory) }
+fn is_no_memory(why: &Refused) -> bool
+    ensures { result ≡ is_no_memory why.now }
 {
-    if why == Refused::NoMemory {
+    matches!(why, Refused::NoMemory)
+}
+
+// The line of a refusal other than want of memory.
+fn refusal_text(alloc: Global, position: u64, why: &Refused) -> Result<Vec<u8>, NoMemory>
+    ensures text { IfOk result (λ text. text.items ≡ printed_refused position why.now) }
+    ensures told { IfOk result (λ _. why.now ≢ Refused.NoMemory) }
+{
+    if is_no_memory(why) {
         return Err(NoMemory);
     }
     let mut text = Vec::new(alloc);
-    print_refused(alloc, position, &why, &mut text)?;
+    print_refused(alloc, position, why, &mut text)?;
     Ok(text)
 }
 
 // The stop that a fault leads to; a refusal does where memory ran out for it.
-fn fault_stop(fault: &SubmitFault) -> ScriptStop
-    ensures { FaultStop fault.now result }
+fn fault_stop(fault: SubmitFault) -> ScriptStop
+    ensures { FaultStop fault result }
 {
     match fault {
         SubmitFault::Refused { .. } => ScriptStop::NoMemory,
-        SubmitFault::Full { length } => ScriptStop::JournalFull { length: *length },
+        SubmitFault::Full { length } => ScriptStop::JournalFull { length },
         SubmitFault::DiskFault | SubmitFault::Failed { .. } => ScriptStop::DiskFault,
     }
 }
 
 // The line of a refusal; any other fault ends the script.
-fn fault_text(alloc: Global, fault: SubmitFault) -> Result<Vec<u8>, ScriptStop>
-    ensures text { IfOk result (λ text. FaultText fault text.items) }
-    ensures stop { IfErr result (FaultStop fault) }
+fn fault_text(alloc: Global, fault: &SubmitFault) -> Result<Vec<u8>, ScriptStop>
+    ensures text { IfOk result (λ text. FaultText fault.now text.items) }
+    ensures stop { IfErr result (FaultStop fault.now) }
 {
     match fault {
-        SubmitFault::Refused { position, why } => match refusal_text(alloc, position, why) {
+        SubmitFault::Refused { position, why } => match refusal_text(alloc, *position, why) {
             Ok(text) => Ok(text),
             Err(NoMemory) => Err(ScriptStop::NoMemory),
         },
-        SubmitFault::Full { length } => Err(ScriptStop::JournalFull { length }),
+        SubmitFault::Full { length } => Err(ScriptStop::JournalFull { length: *length }),
         SubmitFault::DiskFault | SubmitFault::Failed { .. } => Err(ScriptStop::DiskFault),
     }
 }
@@ -88,7 +94,7 @@ fn look<K: Caller>(
             Ok(text) => Ok(text),
             Err(NoMemory) => Err(ScriptStop::NoMemory),
         },
-        Err(fault) => fault_text(alloc, fault),
+        Err(fault) => fault_text(alloc, &fault),
     }
 }
 
@@ -100,11 +106,11 @@ fn say<K: Caller>(alloc: Global, line: &Line, caller: &mut K) -> Result<Vec<u8>,
     ensures leads { K.leads caller.old caller.new }
 {
     match caller.look(alloc, &Query::Settings) {
-        Ok(told) => match word_text(alloc, told.position, line) {
+        Ok(told) => match word_text(alloc, told, line) {
             Ok(text) => Ok(text),
             Err(NoMemory) => Err(ScriptStop::NoMemory),
         },
-        Err(fault) => Err(fault_stop(&fault)),
+        Err(fault) => Err(fault_stop(fault)),
     }
 }
 
@@ -126,7 +132,7 @@ fn give<K: Caller>(
             Ok(text) => Ok(text),
             Err(NoMemory) => Err(ScriptStop::NoMemory),
         },
-        Err(fault) => fault_text(alloc, fault),
+        Err(fault) => fault_text(alloc, &fault),
     }
 }
 
@@ -148,6 +154,7 @@ pub fn line_text<K: Caller>(
     match line {
         Line::Skipped => Ok(Vec::new(alloc)),
         Line::Quit => say(alloc, &Line::Quit, caller),
+        Line::Bad => say(alloc, &Line::Bad, caller),
         Line::NotBuilt => say(alloc, &Line::NotBuilt, caller),
         Line::Look(query) => look(alloc, query, &shape, caller),
         Line::Give(command) => give(alloc, command, &shape, caller),

@@ -1,5 +1,5 @@
 use collect_top::*;
-use disk_model::{FusedDisk, MemDisk, StumbleDisk};
+use disk_model::{FailingDisk, MemDisk, StumbleDisk};
 use field_io::{FixedClock, MemDialer, MemSink, MemSource};
 use field_text::Text;
 use std::alloc::Global;
@@ -62,6 +62,24 @@ fn memory(alloc: Global, journal: &[u8]) -> Result<MemDisk, Fail> {
     Ok(MemDisk::make(alloc, Vec::from_slice(alloc, journal)?)?)
 }
 
+// The status of a call, the disk behind it, and the number of entries.
+fn call(
+    alloc: Global,
+    words: &[Text],
+    source: &mut MemSource,
+    sink: &mut MemSink,
+    disk: FailingDisk,
+) -> (u8, MemDisk, usize) {
+    let done = collect_alone(alloc, words, source, sink, disk, hands(alloc));
+    let Done {
+        status,
+        disk,
+        hands: _,
+        trail,
+    } = done;
+    (status, disk.into_disk(), trail.entries.len())
+}
+
 fn run(
     alloc: Global,
     words: &[&str],
@@ -74,18 +92,12 @@ fn run(
     let mut sink = MemSink::make(Vec::new(alloc), sink);
     let disk = StumbleDisk::make(memory(alloc, journal)?, disk);
     let texts = texts(alloc, words)?;
-    let done = collect_alone(alloc, &texts, &mut source, &mut sink, disk, hands(alloc));
-    let Done {
-        status,
-        disk,
-        hands: _,
-        trail,
-    } = done;
+    let (status, disk, entries) = call(alloc, &texts, &mut source, &mut sink, disk);
     Ok(Left {
         status,
         printed: Vec::from_slice(alloc, sink.bytes())?,
-        journal: Vec::from_slice(alloc, disk.into_disk().bytes())?,
-        entries: trail.entries.len(),
+        journal: Vec::from_slice(alloc, disk.bytes())?,
+        entries,
     })
 }
 
@@ -117,7 +129,7 @@ static CASES: [Case; 10] = [
         words: &["run"],
         script: b"dance\nshow settings\n",
         status: 0,
-        printed: b"1 not built\n1 settings mode manual autosend off\n",
+        printed: b"1 bad line\n1 settings mode manual autosend off\n",
         length: 49,
     },
     Case {
@@ -224,50 +236,6 @@ fn faults_come_behind_what_was_answered(rt: HostRuntime) -> Result<(), Fail> {
         let want: &[u8] = if call == 1 { b"" } else { b"2 ok\n" };
         assert_eq!(rt; left.printed.as_slice(), want);
     }
-    Ok(())
-}
-
-// The status and the printed text of a script over a disk that stops at call k, and the disk below.
-fn stop_at(alloc: Global, k: u64) -> Result<(u8, Vec<u8>, MemDisk), Fail> {
-    let mut source = MemSource::make(Vec::from_slice(alloc, SETTINGS)?, Vec::new(alloc));
-    let mut sink = MemSink::make(Vec::new(alloc), Vec::new(alloc));
-    let disk = FusedDisk::make(memory(alloc, b"")?, k);
-    let texts = texts(alloc, &["run"])?;
-    let done = collect_alone(alloc, &texts, &mut source, &mut sink, disk, hands(alloc));
-    let printed = Vec::from_slice(alloc, sink.bytes())?;
-    Ok((done.status, printed, done.disk.into_disk()))
-}
-
-// What `show settings` prints over a disk.
-fn settings_on(alloc: Global, disk: MemDisk) -> Result<Vec<u8>, Fail> {
-    let mut source = MemSource::make(Vec::from_slice(alloc, b"show settings")?, Vec::new(alloc));
-    let mut sink = MemSink::make(Vec::new(alloc), Vec::new(alloc));
-    let texts = texts(alloc, &["run"])?;
-    let _done = collect_alone(alloc, &texts, &mut source, &mut sink, disk, hands(alloc));
-    Ok(Vec::from_slice(alloc, sink.bytes())?)
-}
-
-// Five calls make the journal; the opening takes calls 6 to 9 and the command 10 to 13. Each entry's gate is written
-// by the third of its calls, so a stop at the fourth leaves the entry, which was not told.
-#[test]
-fn every_stop_leaves_what_was_told(rt: HostRuntime) -> Result<(), Fail> {
-    let alloc = rt.alloc();
-    for k in 1..14u64 {
-        let (status, printed, disk) = stop_at(alloc, k)?;
-        assert_eq!(rt; status, 5);
-        assert_eq!(rt; printed.as_slice(), b"fault 5\n".as_slice());
-        let want: &[u8] = if k <= 8 {
-            b"1 settings mode manual autosend off\n"
-        } else if k <= 12 {
-            b"2 settings mode manual autosend off\n"
-        } else {
-            b"3 settings mode manual autosend on\n"
-        };
-        assert_eq!(rt; settings_on(alloc, disk)?.as_slice(), want);
-    }
-    let (status, printed, _disk) = stop_at(alloc, 14)?;
-    assert_eq!(rt; status, 0);
-    assert_eq!(rt; printed.as_slice(), SETTINGS_ANSWERS);
     Ok(())
 }
 

@@ -11,7 +11,7 @@ use Rattle.collect_text.specs.Parts.{word_then, ends_word}
 use Rattle.collect_text.specs.Printed.{is_bare_word, escape, printed_text, printed_words, is_legible, IsLegible}
 use Rattle.collect_text.proofs.Reading.{bytes_then, bytes_then-none, bytes_then-end, closed-end}
 
-bool_tells : (b : Bool) → (b ≡ true) ⊎ (b ≡ false)
+pub bool_tells : (b : Bool) → (b ≡ true) ⊎ (b ≡ false)
 bool_tells true = inl refl
 bool_tells false = inr refl
 

@@ -2,9 +2,12 @@ pub mod Lines
 pub mod Words
 pub mod Parts
 pub mod Printed
+pub mod Arguments
 pub mod Rows
 pub mod Line
 pub mod Settings
+pub mod Pieces
+pub mod AnswerRows
 pub mod Answers
 pub mod Refusals
 pub mod Log

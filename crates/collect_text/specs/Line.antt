@@ -5,13 +5,14 @@ use Rattle.collect_text.specs.Lines.{without_return}
 use Rattle.collect_text.specs.Rows.{words_meaning}
 use Rattle.collect_text.specs.Words.{words_of, is_skipped}
 use Rattle.collect_text.specs.declared.line.Line.{Line}
-use Rattle.collect_text.specs.declared.line.Line.TheVariants.{Skipped, NotBuilt, Give}
+use Rattle.collect_text.specs.declared.line.Line.TheVariants.{Skipped, Bad, Give}
 use Rattle.collect_text.specs.declared.line.Shape.{Shape}
 use Rattle.collect_text.specs.declared.line.Shape.TheVariants.{Plain, Saved, Finalized}
 
+-- a line that spells no words is bad
 abbrev pub told_meaning : Option (List (List ℕ)) → Line
 told_meaning (Some words) = words_meaning words
-told_meaning None = NotBuilt
+told_meaning None = Bad
 
 -- the meaning of a line without its line feed; a carriage return at its end doesn't count
 abbrev pub meaning : List ℕ → Line

@@ -1,22 +1,70 @@
 -- The line of a refusal: its number and its words.
 use Rattle.std.specs.Prelude.{ℕ, List, ◌++◌, codes}
-use Rattle.std.specs.Fmt.{decimal}
+use Rattle.form_read.specs.declared.refusal.FormRefused.{FormRefused}
+use Rattle.form_read.specs.declared.refusal.FormRefused.TheVariants as forms
+use Rattle.question_rules.specs.declared.answers.AnswerRefused.{AnswerRefused}
+use Rattle.question_rules.specs.declared.answers.AnswerRefused.TheVariants as answers
 use Rattle.device_rules.specs.declared.refused.Refused.{Refused}
-use Rattle.device_rules.specs.declared.refused.Refused.TheVariants.{BadValue, Limit, NoMemory, NotBuilt}
+use Rattle.device_rules.specs.declared.refused.Refused.TheVariants as refusals
 use Rattle.device_rules.specs.declared.refused.Which.{Which}
-use Rattle.device_rules.specs.declared.refused.Which.TheVariants.{Counters}
+use Rattle.device_rules.specs.declared.refused.Which.TheVariants.{Forms, Instances, Counters}
 use Rattle.device_rules.specs.Refused.{refused_number}
 use Rattle.collect_text.specs.Lines.{line_at}
+use Rattle.collect_text.specs.Pieces.{spaced_number, spaced_text, spaced_word, status_word}
 
 abbrev pub limit_word : Which → List ℕ
+limit_word Forms = codes "forms"
+limit_word Instances = codes "instances"
 limit_word Counters = codes "counters"
 
+-- why an answer isn't taken
+abbrev pub answer_word : AnswerRefused → List ℕ
+answer_word answers.NoQuestion = codes "no-question"
+answer_word answers.NotRelevant = codes "not-relevant"
+answer_word answers.ReadOnly = codes "read-only"
+answer_word answers.NotWhole = codes "not-whole"
+answer_word answers.NotAChoice = codes "not-a-choice"
+answer_word answers.TooLong = codes "too-long"
+answer_word (answers.BadChar at) = codes "bad-char"
+answer_word answers.NoMemory = codes "memory"
+
+-- the number by which it is printed why bytes are no form
+abbrev pub form_refused_number : FormRefused → ℕ
+form_refused_number (forms.Doc why) = 1
+form_refused_number forms.NoPrimary = 2
+form_refused_number forms.NoId = 3
+form_refused_number (forms.BadExpr path at) = 4
+form_refused_number (forms.UnknownPath path) = 5
+form_refused_number (forms.UnknownControl name) = 6
+form_refused_number (forms.UnknownType path) = 7
+form_refused_number (forms.Cycle path) = 8
+form_refused_number (forms.UnknownList name) = 9
+form_refused_number (forms.TooManyFields count) = 10
+form_refused_number (forms.BadEntity path) = 11
+form_refused_number forms.NoMemory = 12
+
 abbrev pub refusal_words : Refused → List ℕ
-refusal_words BadValue = codes "value"
-refusal_words (Limit which number) = codes "limit " ++ limit_word which ++ codes " " ++ decimal number
-refusal_words NoMemory = codes "memory"
-refusal_words NotBuilt = codes "not-built"
+refusal_words refusals.BadValue = codes "value"
+refusal_words refusals.NoForm = codes "form"
+refusal_words refusals.NoVersion = codes "version"
+refusal_words refusals.NoInstance = codes "instance"
+refusal_words refusals.NoEntry = codes "entry"
+refusal_words refusals.EntryThere = codes "entry-there"
+refusal_words refusals.SavepointThere = codes "savepoint"
+refusal_words refusals.NoSavepoint = codes "no-savepoint"
+refusal_words (refusals.WrongStatus status) = codes "status" ++ spaced_word (status_word status)
+refusal_words (refusals.HasEdit number) = codes "edit" ++ spaced_number number
+refusal_words (refusals.InUse number) = codes "used" ++ spaced_number number
+refusal_words (refusals.Answer why) = codes "answer" ++ spaced_word (answer_word why)
+refusal_words (refusals.FormRefused why) = codes "form-refused" ++ spaced_number (form_refused_number why)
+refusal_words (refusals.OtherBytes kept new) = codes "other" ++ spaced_text kept ++ spaced_text new
+refusal_words (refusals.Limit which number) = codes "limit" ++ spaced_word (limit_word which) ++ spaced_number number
+refusal_words refusals.NoMemory = codes "memory"
+refusal_words refusals.NotBuilt = codes "not-built"
+
+-- the number of a refusal and its words, behind the position
+abbrev pub refused_text : Refused → List ℕ
+refused_text why = codes "refused" ++ spaced_number (refused_number why) ++ spaced_word (refusal_words why)
 
 abbrev pub printed_refused : ℕ → Refused → List ℕ
-printed_refused position why = line_at position
-    (codes "refused " ++ decimal (refused_number why) ++ codes " " ++ refusal_words why)
+printed_refused position why = line_at position (refused_text why)

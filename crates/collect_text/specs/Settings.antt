@@ -2,7 +2,7 @@
 use Rattle.std.specs.Prelude.{ℕ, List, ◌++◌, Bool, true, false, codes}
 use Rattle.field_text.specs.declared.mode.Mode.{Mode}
 use Rattle.field_text.specs.declared.mode.Mode.TheVariants.{Manual, Previous, Exact}
-use Rattle.device_rules.specs.declared.answer.Settings.{Settings}
+use Rattle.device_state.specs.declared.state.Settings.{Settings}
 
 abbrev pub mode_word : Mode → List ℕ
 mode_word Manual = codes "manual"

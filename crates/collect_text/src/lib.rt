@@ -1,9 +1,12 @@
 //! How the bytes of a script become lines and words, and how a text is printed in a line.
 #![tactic(auto)]
 
+mod answer_rows;
+mod arguments;
 mod line;
 mod lines;
 mod log;
+mod pieces;
 mod print;
 mod printed;
 mod refusals;

@@ -13,7 +13,9 @@ use std::alloc::Global;
 pub enum Line {
     /// A line without words, or a comment.
     Skipped,
-    /// A line that this program doesn't know yet.
+    /// A line off the grammar of scripts.
+    Bad,
+    /// A line of the grammar that this program doesn't know yet.
     NotBuilt,
     /// The end of the script.
     Quit,
@@ -53,7 +55,7 @@ pub fn read_line(alloc: Global, line: &[u8]) -> Result<Line, NoMemory>
         return Ok(Line::Skipped);
     }
     match words(alloc, line)? {
-        Some(words) => Ok(line_of_words(words.as_slice())),
-        None => Ok(Line::NotBuilt),
+        Some(words) => line_of_words(alloc, words.as_slice()),
+        None => Ok(Line::Bad),
     }
 }

@@ -1,14 +1,90 @@
 // The lines that answer the lines of a script.
-ghost use Rattle.std.specs.Prelude.{◌≡◌, ◌++◌, OnOk, OnErr};
-ghost use Rattle.collect_text.specs.Answers.{printed_answer, printed_word, IsWord};
+ghost use Rattle.std.specs.Prelude.{◌≡◌, ◌++◌, IfOk, OnOk, OnErr};
+ghost use Rattle.collect_text.specs.Answers.{answer_text, entry_head, number_text, printed_answer, printed_word};
+ghost use Rattle.collect_text.specs.Answers.{IsWord};
 
+use crate::answer_rows::push_answer_rows;
+use crate::pieces::{line_at, push_numbered, push_spaced_number, push_spaced_text, push_word};
 use crate::settings::settings_text;
 use crate::{Line, Shape};
-use device_rules::Answer;
+use device_rules::{Answer, EntryView};
 use field_text::NoMemory;
 use std::alloc::Global;
 
-/// Appends the line of the answer to a line of this shape, at a position.
+fn push_number_text(
+    alloc: Global,
+    shape: &Shape,
+    number: u64,
+    out: &mut Vec<u8>,
+) -> Result<(), NoMemory>
+    ensures { OnOk result (out.new.items ≡ out.old.items ++ number_text shape.now number) }
+{
+    match shape {
+        Shape::Saved => push_numbered(alloc, "saved", number, out),
+        Shape::Finalized => push_numbered(alloc, "finalized", number, out),
+        Shape::Plain | Shape::List(_) => push_word("ok", out),
+    }
+}
+
+fn push_entry_head(
+    alloc: Global,
+    entry: &Option<EntryView>,
+    out: &mut Vec<u8>,
+) -> Result<(), NoMemory>
+    ensures { OnOk result (out.new.items ≡ out.old.items ++ entry_head entry.now) }
+{
+    let Some(entry) = entry else {
+        return push_word("entry -", out);
+    };
+    push_word("entry", out)?;
+    push_spaced_text(&entry.id, out)?;
+    push_spaced_text(&entry.version, out)?;
+    push_spaced_number(alloc, entry.fields.len() as u64, out)
+}
+
+fn push_answer_text(
+    alloc: Global,
+    shape: &Shape,
+    answer: &Answer,
+    out: &mut Vec<u8>,
+) -> Result<(), NoMemory>
+    ensures { OnOk result (out.new.items ≡ out.old.items ++ answer_text shape.now answer.now) }
+{
+    match answer {
+        Answer::Done => push_word("ok", out),
+        Answer::Number(number) => push_number_text(alloc, shape, *number, out),
+        Answer::Settings(settings) => {
+            let text = settings_text(alloc, settings)?;
+            push_word(text.as_str(), out)
+        }
+        Answer::Forms(forms) => push_numbered(alloc, "forms", forms.len() as u64, out),
+        Answer::Instances(instances) => push_numbered(
+            alloc,
+            "instances",
+            instances.len() as u64,
+            out,
+        ),
+        Answer::EntryNow(entry) => push_entry_head(alloc, entry, out),
+    }
+}
+
+// All lines of an answer.
+fn answer_lines(
+    alloc: Global,
+    position: u64,
+    shape: &Shape,
+    answer: &Answer,
+) -> Result<Vec<u8>, NoMemory>
+    ensures { IfOk result (λ lines. lines.items ≡ printed_answer position shape.now answer.now) }
+{
+    let mut text = Vec::new(alloc);
+    push_answer_text(alloc, shape, answer, &mut text)?;
+    let mut lines = line_at(alloc, position, text.as_slice())?;
+    push_answer_rows(alloc, answer, &mut lines)?;
+    Ok(lines)
+}
+
+/// Appends the lines of the answer to a line of this shape, at a position.
 pub fn print_answer(
     alloc: Global,
     position: u64,
@@ -19,17 +95,11 @@ pub fn print_answer(
     ensures ok { OnOk result (out.new.items ≡ out.old.items ++ printed_answer position shape.now answer.now) }
     ensures err { OnErr result (out.new.items ≡ out.old.items) }
 {
-    let line = match answer {
-        Answer::Done => format!(in alloc; "{position} ok\n")?,
-        Answer::Settings(settings) => {
-            let text = settings_text(alloc, settings)?;
-            format!(in alloc; "{position} {text}\n")?
-        }
-    };
-    Ok(out.extend_from_slice(line.as_bytes())?)
+    let lines = answer_lines(alloc, position, shape, answer)?;
+    Ok(out.extend_from_slice(lines.as_slice())?)
 }
 
-/// Appends the line of the end of the script, or of a line that isn't known yet.
+/// Appends the line of the end of the script, of a bad line, or of a line that isn't known yet.
 pub fn print_word(
     alloc: Global,
     position: u64,
@@ -42,6 +112,7 @@ pub fn print_word(
 {
     let word = match line {
         Line::Quit => "bye",
+        Line::Bad => "bad line",
         _ => "not built",
     };
     let line = format!(in alloc; "{position} {word}\n")?;

@@ -1,10 +1,123 @@
 // The line of a refusal.
-ghost use Rattle.std.specs.Prelude.{◌≡◌, ◌≢◌, ◌++◌, string_bytes, IfOk, OnOk, OnErr};
-ghost use Rattle.collect_text.specs.Refusals.{printed_refused, refusal_words};
+ghost use Rattle.std.specs.Prelude.{◌≡◌, ◌≢◌, ◌++◌, IfOk, OnOk, OnErr};
+ghost use Rattle.collect_text.specs.Pieces.{spaced_number, spaced_text, spaced_word};
+ghost use Rattle.collect_text.specs.Refusals.{answer_word, form_refused_number, limit_word, printed_refused};
+ghost use Rattle.collect_text.specs.Refusals.{refusal_words, refused_text};
 
+use crate::pieces::{
+    line_at, push_numbered, push_spaced_number, push_spaced_text, push_spaced_word, push_word,
+    status_word,
+};
 use device_rules::{Refused, Which};
-use field_text::NoMemory;
-use std::alloc::{AllocError, Global};
+use field_text::{NoMemory, Text};
+use form_read::FormRefused;
+use question_rules::AnswerRefused;
+use std::alloc::Global;
+
+fn limit_word(which: Which) -> &'static str
+    ensures { result.now ≡ limit_word which }
+{
+    match which {
+        Which::Forms => "forms",
+        Which::Instances => "instances",
+        Which::Counters => "counters",
+    }
+}
+
+fn answer_word(why: AnswerRefused) -> &'static str
+    ensures { result.now ≡ answer_word why }
+{
+    match why {
+        AnswerRefused::NoQuestion => "no-question",
+        AnswerRefused::NotRelevant => "not-relevant",
+        AnswerRefused::ReadOnly => "read-only",
+        AnswerRefused::NotWhole => "not-whole",
+        AnswerRefused::NotAChoice => "not-a-choice",
+        AnswerRefused::TooLong => "too-long",
+        AnswerRefused::BadChar { .. } => "bad-char",
+        AnswerRefused::NoMemory => "memory",
+    }
+}
+
+fn form_refused_number(why: &FormRefused) -> u64
+    ensures { result ≡ form_refused_number why.now }
+{
+    match why {
+        FormRefused::Doc(_) => 1,
+        FormRefused::NoPrimary => 2,
+        FormRefused::NoId => 3,
+        FormRefused::BadExpr { .. } => 4,
+        FormRefused::UnknownPath { .. } => 5,
+        FormRefused::UnknownControl { .. } => 6,
+        FormRefused::UnknownType { .. } => 7,
+        FormRefused::Cycle { .. } => 8,
+        FormRefused::UnknownList { .. } => 9,
+        FormRefused::TooManyFields { .. } => 10,
+        FormRefused::BadEntity { .. } => 11,
+        FormRefused::NoMemory => 12,
+    }
+}
+
+fn push_two_words(word: &str, next: &str, out: &mut Vec<u8>) -> Result<(), NoMemory>
+    ensures { OnOk result (out.new.items ≡ out.old.items ++ (word.now ++ spaced_word next.now)) }
+{
+    push_word(word, out)?;
+    push_spaced_word(next, out)
+}
+
+fn push_other(kept: &Text, new: &Text, out: &mut Vec<u8>) -> Result<(), NoMemory>
+    ensures { OnOk result (out.new.items ≡ out.old.items ++ refusal_words (Refused.OtherBytes kept.now new.now)) }
+{
+    push_word("other", out)?;
+    push_spaced_text(kept, out)?;
+    push_spaced_text(new, out)
+}
+
+fn push_limit(alloc: Global, which: Which, number: u64, out: &mut Vec<u8>) -> Result<(), NoMemory>
+    ensures { OnOk result (out.new.items ≡ out.old.items ++ refusal_words (Refused.Limit which number)) }
+{
+    push_two_words("limit", limit_word(which), out)?;
+    push_spaced_number(alloc, number, out)
+}
+
+fn push_refusal_words(alloc: Global, why: &Refused, out: &mut Vec<u8>) -> Result<(), NoMemory>
+    ensures { OnOk result (out.new.items ≡ out.old.items ++ refusal_words why.now) }
+{
+    match why {
+        Refused::BadValue => push_word("value", out),
+        Refused::NoForm => push_word("form", out),
+        Refused::NoVersion => push_word("version", out),
+        Refused::NoInstance => push_word("instance", out),
+        Refused::NoEntry => push_word("entry", out),
+        Refused::EntryThere => push_word("entry-there", out),
+        Refused::SavepointThere => push_word("savepoint", out),
+        Refused::NoSavepoint => push_word("no-savepoint", out),
+        Refused::WrongStatus { status } => push_two_words("status", status_word(*status), out),
+        Refused::HasEdit { number } => push_numbered(alloc, "edit", *number, out),
+        Refused::InUse { number } => push_numbered(alloc, "used", *number, out),
+        Refused::Answer(why) => push_two_words("answer", answer_word(*why), out),
+        Refused::FormRefused(why) => push_numbered(
+            alloc,
+            "form-refused",
+            form_refused_number(why),
+            out,
+        ),
+        Refused::OtherBytes { kept, new } => push_other(kept, new, out),
+        Refused::Limit { which, number } => push_limit(alloc, *which, *number, out),
+        Refused::NoMemory => push_word("memory", out),
+        Refused::NotBuilt => push_word("not-built", out),
+    }
+}
+
+fn refused_line(alloc: Global, position: u64, why: &Refused) -> Result<Vec<u8>, NoMemory>
+    ensures { IfOk result (λ line. line.items ≡ printed_refused position why.now) }
+{
+    let mut text = Vec::new(alloc);
+    push_numbered(alloc, "refused", why.number(), &mut text)?;
+    text.push(b' ')?;
+    push_refusal_words(alloc, why, &mut text)?;
+    line_at(alloc, position, text.as_slice())
+}
 
 /// Appends the line of a refusal at a position. Want of memory has no line of its own.
 pub fn print_refused(
@@ -17,21 +130,6 @@ pub fn print_refused(
     ensures ok { OnOk result (out.new.items ≡ out.old.items ++ printed_refused position why.now) }
     ensures err { OnErr result (out.new.items ≡ out.old.items) }
 {
-    let number = why.number();
-    let words = refusal_words(alloc, why)?;
-    let line = format!(in alloc; "{position} refused {number} {words}\n")?;
-    Ok(out.extend_from_slice(line.as_bytes())?)
-}
-
-fn refusal_words(alloc: Global, why: &Refused) -> Result<String, AllocError>
-    ensures { IfOk result (λ text. string_bytes text ≡ refusal_words why.now) }
-{
-    match why {
-        Refused::BadValue => String::from_str(alloc, "value"),
-        Refused::Limit { which, number } => match which {
-            Which::Counters => format!(in alloc; "limit counters {number}"),
-        },
-        Refused::NoMemory => String::from_str(alloc, "memory"),
-        Refused::NotBuilt => String::from_str(alloc, "not-built"),
-    }
+    let line = refused_line(alloc, position, why)?;
+    Ok(out.extend_from_slice(line.as_slice())?)
 }

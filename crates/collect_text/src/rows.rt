@@ -1,24 +1,36 @@
 // The lines of fixed words. To add a line is to add a row.
-ghost use Rattle.std.specs.Prelude.{◌≡◌, map};
+ghost use Rattle.std.specs.Prelude.{◌≡◌, map, IfOk};
 ghost use Rattle.collect_text.specs.Rows.{LineRow, rows, line_of, words_meaning, same_words};
 
 use crate::Line;
+use crate::arguments::with_arguments;
 use device_rules::Query;
 use entry_form::Command;
-use field_text::{Mode, Text};
+use field_text::{Mode, NoMemory, Text};
+use std::alloc::Global;
 
 /// What the words of a line ask for.
 #[derive(Clone, Copy, Debug, PartialEq, Eq)]
 pub enum Asked {
     Quit,
+    NotBuilt,
     ShowSettings,
+    ShowForms,
+    ShowInstances,
+    ShowEntry,
     AutoSend(bool),
     UpdateMode(Mode),
+    Tick,
+    Save,
+    Leave,
 }
 
-static ROWS: [(&[&str], Asked); 7] = [
+static ROWS: [(&[&str], Asked); 19] = [
     (&["quit"], Asked::Quit),
     (&["show", "settings"], Asked::ShowSettings),
+    (&["show", "forms"], Asked::ShowForms),
+    (&["show", "instances"], Asked::ShowInstances),
+    (&["show", "entry"], Asked::ShowEntry),
     (&["set", "autosend", "on"], Asked::AutoSend(true)),
     (&["set", "autosend", "off"], Asked::AutoSend(false)),
     (&["set", "mode", "manual"], Asked::UpdateMode(Mode::Manual)),
@@ -27,6 +39,15 @@ static ROWS: [(&[&str], Asked); 7] = [
         Asked::UpdateMode(Mode::Previous),
     ),
     (&["set", "mode", "exact"], Asked::UpdateMode(Mode::Exact)),
+    (&["tick"], Asked::Tick),
+    (&["save"], Asked::Save),
+    (&["leave"], Asked::Leave),
+    (&["finalize"], Asked::NotBuilt),
+    (&["finalizeall"], Asked::NotBuilt),
+    (&["send"], Asked::NotBuilt),
+    (&["update"], Asked::NotBuilt),
+    (&["lists"], Asked::NotBuilt),
+    (&["settle"], Asked::NotBuilt),
 ];
 
 fn rows() -> &'static [(&'static [&'static str], Asked)]
@@ -40,9 +61,16 @@ fn line_of(asked: Asked) -> Line
 {
     match asked {
         Asked::Quit => Line::Quit,
+        Asked::NotBuilt => Line::NotBuilt,
         Asked::ShowSettings => Line::Look(Query::Settings),
+        Asked::ShowForms => Line::Look(Query::Forms),
+        Asked::ShowInstances => Line::Look(Query::Instances),
+        Asked::ShowEntry => Line::Look(Query::EntryNow),
         Asked::AutoSend(on) => Line::Give(Command::AutoSend(on)),
         Asked::UpdateMode(mode) => Line::Give(Command::UpdateMode(mode)),
+        Asked::Tick => Line::Give(Command::Tick),
+        Asked::Save => Line::Give(Command::SaveDraft),
+        Asked::Leave => Line::Give(Command::Leave),
     }
 }
 
@@ -58,16 +86,16 @@ fn are_words(words: &[Text], wanted: &[&str]) -> bool
     }
 }
 
-// The line that these words are: that of the first row that has them.
-pub(crate) fn line_of_words(words: &[Text]) -> Line
-    ensures { result ≡ words_meaning words.now }
+// The line that these words are: that of the first row that has them, else one with arguments.
+pub(crate) fn line_of_words(alloc: Global, words: &[Text]) -> Result<Line, NoMemory>
+    ensures { IfOk result (λ line. line ≡ words_meaning words.now) }
 {
     let mut rest = rows();
     while let [row, others @ ..] = rest {
         if are_words(words, row.0) {
-            return line_of(row.1);
+            return Ok(line_of(row.1));
         }
         rest = others;
     }
-    Line::NotBuilt
+    with_arguments(alloc, words)
 }

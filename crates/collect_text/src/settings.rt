@@ -2,7 +2,7 @@
 ghost use Rattle.std.specs.Prelude.{◌≡◌, ◌++◌, codes, string_bytes, IfOk};
 ghost use Rattle.collect_text.specs.Settings.{settings_text, mode_word, switch_word};
 
-use device_rules::Settings;
+use device_state::Settings;
 use field_text::Mode;
 use std::alloc::{AllocError, Global};
 

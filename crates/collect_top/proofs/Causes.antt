@@ -11,7 +11,7 @@ use Rattle.device_core.specs.Faults.{ContentReadsAs, IsFull, IsFullFor, IsOpenFa
 use Rattle.device_core.specs.Images.{ReadsAs}
 use Rattle.device_core.proofs.Once.{reads_once}
 use Rattle.line_io.specs.Script.{IsUncut, Taken, longest_line, most_bytes}
-use Rattle.device_rules.specs.declared.state.State.{State}
+use Rattle.device_state.specs.declared.state.State.{State}
 use Rattle.collect_text.specs.declared.line.Line.{Line}
 use Rattle.collect_script.specs.declared.stop.ScriptStop.{ScriptStop}
 use Rattle.collect_script.specs.declared.stop.ScriptStop.TheVariants as script

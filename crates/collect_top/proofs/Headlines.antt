@@ -6,7 +6,7 @@ use Rattle.entry_form.specs.declared.entry.Entry.{Entry}
 use Rattle.device_journal.specs.declared.fault.OpenFault.{OpenFault}
 use Rattle.device_journal.specs.declared.fault.OpenFault.TheVariants as opening
 use Rattle.device_rules.specs.declared.trail.Trail.{Trail}
-use Rattle.device_rules.specs.State.{initial}
+use Rattle.device_state.specs.State.{initial}
 use Rattle.device_rules.specs.Trail.{entries_of, replay}
 use Rattle.device_core.specs.Faults.{IsOpenFault}
 use Rattle.device_core.specs.Images.{ReadsAs}

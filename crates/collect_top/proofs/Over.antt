@@ -7,7 +7,7 @@ use Rattle.entry_form.specs.declared.entry.Entry.{Entry}
 use Rattle.device_journal.specs.Frames.{end_of}
 use Rattle.device_rules.specs.declared.trail.Trail.{Trail}
 use Rattle.device_rules.specs.Caller.{Grows}
-use Rattle.device_rules.specs.State.{initial}
+use Rattle.device_state.specs.State.{initial}
 use Rattle.device_rules.specs.Trail.{IsLegal, entries_of}
 use Rattle.device_core.specs.Caller.{Leads, LeadsOn, risen, seen_of}
 use Rattle.device_core.specs.Crash.{Crash}

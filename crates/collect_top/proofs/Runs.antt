@@ -14,7 +14,7 @@ use Rattle.device_journal.specs.Frames.{end_of}
 use Rattle.device_journal.specs.Moments.{LeavesFrom, synced_at, unsynced}
 use Rattle.device_rules.specs.declared.trail.Trail.{Trail}
 use Rattle.device_rules.specs.Caller.{is_of}
-use Rattle.device_rules.specs.State.{initial}
+use Rattle.device_state.specs.State.{initial}
 use Rattle.device_rules.specs.Trail.{IsLegal, entries_of, replay}
 use Rattle.device_core.specs.Crash.{Crash, HasAtLeast, LeavesUnopened, unappended}
 use Rattle.device_core.specs.CrashLaws.{at_least_less, at_least_more}

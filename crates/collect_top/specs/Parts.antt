@@ -11,7 +11,7 @@ use Rattle.device_journal.specs.declared.fault.OpenFault.{OpenFault}
 use Rattle.device_rules.specs.declared.trail.Trail.{Trail}
 use Rattle.device_rules.specs.Caller.{is_of}
 use Rattle.device_rules.specs.Opened.{default_server}
-use Rattle.device_rules.specs.State.{initial}
+use Rattle.device_state.specs.State.{initial}
 use Rattle.device_rules.specs.Trail.{IsLegal, entries_of}
 use Rattle.device_core.specs.Images.{ReadsAs, payloads_of}
 use Rattle.line_io.specs.Output.{Gained, IsCut}

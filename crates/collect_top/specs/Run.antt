@@ -6,7 +6,7 @@ use Rattle.entry_form.specs.declared.entry.Entry.{Entry}
 use Rattle.device_journal.specs.Frames.{end_of}
 use Rattle.device_journal.specs.declared.fault.OpenFault.{OpenFault}
 use Rattle.device_rules.specs.declared.trail.Trail.{Trail}
-use Rattle.device_rules.specs.State.{initial}
+use Rattle.device_state.specs.State.{initial}
 use Rattle.device_rules.specs.Trail.{IsLegal, entries_of}
 use Rattle.device_core.specs.Caller.{Leads}
 use Rattle.device_core.specs.Crash.{Crash}

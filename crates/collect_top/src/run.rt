@@ -1,6 +1,6 @@
 // The work over a device that was opened.
 ghost use Rattle.std.specs.Prelude.{◌≡◌, [], IfOk, IsTrue, List, Option, ℕ, Err};
-ghost use Rattle.device_rules.specs.State.{initial};
+ghost use Rattle.device_state.specs.State.{initial};
 ghost use Rattle.device_rules.specs.Opened.{is_opening};
 ghost use Rattle.device_core.specs.View.{IsReady};
 ghost use Rattle.collect_script.specs.Ends.{streams};
@@ -12,7 +12,8 @@ ghost use Rattle.collect_top.specs.Stop.{end_of_script};
 use crate::{Stop, Work, put_log};
 use collect_script::{ScriptStop, answer_lines};
 use device_core::{Device, DeviceCaller, OpenFault};
-use device_rules::{State, Trail};
+use device_rules::Trail;
+use device_state::State;
 use disk_model::Disk;
 use entry_form::{Entry, Opening};
 use field_io::{Sink, Source};

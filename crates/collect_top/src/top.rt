@@ -1,5 +1,7 @@
 ghost use Rattle.std.specs.Prelude.{◌≡◌, true, List, Option, ℕ};
 ghost use Rattle.collect_script.specs.Ends.{streams};
+ghost use Rattle.device_laws.specs.Soundness.{KeepsUsedForms};
+ghost use Rattle.device_rules.specs.Trail.{entries_of};
 ghost use Rattle.collect_top.specs.Headline.{Headline};
 ghost use Rattle.collect_top.specs.Outside.{Images};
 ghost use Rattle.collect_top.specs.Parts.{PutsStop};
@@ -100,6 +102,7 @@ pub fn collect_alone<So: Source, Si: Sink, D: Disk, N: Dialer, C: Clock>(
           disk_faults = D.faults result.disk;
         })
         result.status result.trail }
+    ensures used_forms { KeepsUsedForms (entries_of result.trail.entries) }
     ensures transmissions { result.hands ≡ hands }
 {
     let Some(work) = work_of(words) else {

@@ -12,13 +12,13 @@ use Rattle.device_journal.specs.Frames.{end_of, limit, HasFrames, Stands}
 use Rattle.device_journal.specs.Moments.{LeavesOnly, LeavesFrom}
 use Rattle.device_journal.specs.Sound.{IsBeforeOrAfter}
 use Rattle.device_rules.specs.declared.answer.Answer.{Answer}
-use Rattle.device_rules.specs.declared.state.State.{State}
+use Rattle.device_state.specs.declared.state.State.{State}
 use Rattle.device_rules.specs.declared.trail.Marked.{Marked}
 use Rattle.device_core.specs.Crash.{AddsOnly, Crash, HasAtLeast}
 use Rattle.device_core.specs.Device.{IsKept, IsLoaded}
 use Rattle.device_core.specs.Images.{payloads_of}
 use Rattle.device_core.specs.Replay.{IsSpelledBy}
-use Rattle.device_rules.specs.State.{initial}
+use Rattle.device_state.specs.State.{initial}
 use Rattle.device_rules.specs.Step.{IsAllowed, step}
 use Rattle.device_rules.specs.Trail.{IsLegal, entries_of, marked_at, replay, state_after}
 use Rattle.device_core.specs.View.{Appends, IsOpened, DeviceView}
@@ -32,6 +32,11 @@ use Rattle.device_core.specs.CrashLaws.{adds_same, at_least_more}
 use Rattle.device_core.proofs.Crashes.{length-entries, leaves_then, crash_failed, crash_grown, crash_found}
 use Rattle.device_core.proofs.Payloads.{end_of-push, fit-push, payloads-push}
 use Rattle.device_rules.proofs.Replays.{after_step, entries-push, replay-push}
+
+-- a step on a state that is the same
+pub stepped_on : (mid old new : State) (entry : Entry) (answer : Answer) → mid ≡ old → step mid entry ≡ Ok (new, answer)
+    → step old entry ≡ Ok (new, answer)
+stepped_on mid old new entry answer same stepped = subst (λ s. step s entry ≡ Ok (new, answer)) same stepped
 
 -- an append that answered otherwise had no fault before it
 pub was_sound : (failed : Option ℕ) (result other : Result ℕ AppendFault) → result ≡ other → ((faults : ℕ) → other ≡ Err (journal.Failed faults) → ⊥) → ((faults : ℕ) → failed ≡ Some faults → result ≡ Err (journal.Failed faults)) → failed ≡ None

@@ -13,14 +13,14 @@ use Rattle.entry_codec.specs.Spelling.{spelling}
 use Rattle.device_journal.specs.Frames.{end_of}
 use Rattle.device_rules.specs.declared.answer.Answer.{Answer}
 use Rattle.device_rules.specs.declared.answer.Query.{Query}
-use Rattle.device_rules.specs.declared.state.State.{State}
+use Rattle.device_state.specs.declared.state.State.{State}
 use Rattle.device_rules.specs.declared.told.SubmitFault.{SubmitFault}
 use Rattle.device_rules.specs.declared.told.SubmitFault.TheVariants as submitting
 use Rattle.device_rules.specs.declared.told.Told.{Told}
 use Rattle.device_rules.specs.Answers.{answer_to}
 use Rattle.device_rules.specs.Caller.{CallerView, of_hand, AddsOthers, Reaches, LooksOn, Calls, Looks, Dues, Closes, raised}
 use Rattle.device_rules.specs.Refused.{rule_of}
-use Rattle.device_rules.specs.State.{initial}
+use Rattle.device_state.specs.State.{initial}
 use Rattle.device_rules.specs.Trail.{entries_of, replay, IsLegal}
 use Rattle.device_rules.proofs.Replays.{entries-push, legal_front}
 use Rattle.device_core.specs.Caller.{risen, seen_of, refusals_after, Leads}

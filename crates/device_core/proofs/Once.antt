@@ -13,9 +13,9 @@ use Rattle.device_journal.specs.declared.fault.OpenFault.TheVariants as opening
 use Rattle.std.specs.Prelude.{option_map}
 use Rattle.std.specs.Result.{result_ok}
 use Rattle.device_rules.specs.declared.refused.Refused.{Refused}
-use Rattle.device_rules.specs.declared.state.State.{State}
+use Rattle.device_state.specs.declared.state.State.{State}
 use Rattle.device_core.specs.Images.{StandsFor, IsOffFrom, IsOffSpelling, payloads_of, ReadsAs}
-use Rattle.device_rules.specs.State.{initial}
+use Rattle.device_state.specs.State.{initial}
 use Rattle.device_rules.specs.Step.{step}
 use Rattle.device_rules.specs.Trail.{replay, state_after}
 

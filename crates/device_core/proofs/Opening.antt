@@ -11,11 +11,11 @@ use Rattle.device_journal.specs.Frames.{HasFrames, Stands, IsOffAt}
 use Rattle.device_journal.specs.Opened.{OfOpening}
 use Rattle.device_journal.specs.Moments.{LeavesFrom, IsAsRead}
 use Rattle.device_core.specs.Crash.{HasAtLeast, IsLeftByOpening, IsLeft, AddsOnly}
-use Rattle.device_rules.specs.declared.state.State.{State}
+use Rattle.device_state.specs.declared.state.State.{State}
 use Rattle.device_core.specs.Faults.{ReadsAs, ContentReadsAs, IsOpenFault}
 use Rattle.device_core.specs.Images.{StandsFor}
 use Rattle.device_core.specs.Replay.{IsSpelledBy, IsRecoverFault}
-use Rattle.device_rules.specs.State.{initial}
+use Rattle.device_state.specs.State.{initial}
 use Rattle.device_rules.specs.Trail.{replay}
 use Rattle.device_core.proofs.Crashes.{leaves_then}
 

@@ -4,10 +4,10 @@ use Rattle.std.specs.Prelude.{reverse}
 use Rattle.std.proofs.lemmas.List.{map-append, reverse-append}
 use Rattle.entry_form.specs.declared.entry.Entry.{Entry}
 use Rattle.device_rules.specs.declared.refused.Refused.{Refused}
-use Rattle.device_rules.specs.declared.state.State.{State}
+use Rattle.device_state.specs.declared.state.State.{State}
 use Rattle.device_rules.specs.declared.trail.Marked.{Marked}
 use Rattle.device_core.specs.Images.{IsRefusedFrom}
-use Rattle.device_rules.specs.State.{initial}
+use Rattle.device_state.specs.State.{initial}
 use Rattle.device_rules.specs.Step.{step}
 use Rattle.device_rules.proofs.Replays.{entries-push, replay-push}
 use Rattle.device_rules.specs.Trail.{entries_of, marked_at, replay, state_after}

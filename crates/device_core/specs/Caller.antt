@@ -10,7 +10,7 @@ use Rattle.device_rules.specs.declared.told.SubmitFault.{SubmitFault}
 use Rattle.device_rules.specs.declared.told.SubmitFault.TheVariants as faults
 use Rattle.device_rules.specs.declared.told.Told.{Told}
 use Rattle.device_rules.specs.Caller.{CallerView, is_of, raised}
-use Rattle.device_rules.specs.State.{initial}
+use Rattle.device_state.specs.State.{initial}
 use Rattle.device_rules.specs.Trail.{entries_of}
 use Rattle.device_core.specs.Crash.{AddsOnly, HasAtLeast}
 use Rattle.device_core.specs.Images.{payloads_of}

@@ -8,9 +8,9 @@ use Rattle.std.proofs.lemmas.List.{append-nil}
 use Rattle.field_io.specs.Causes.{Rose}
 use Rattle.entry_form.specs.declared.entry.Entry.{Entry}
 use Rattle.entry_form.specs.declared.hand.Hand.TheVariants.{Script}
-use Rattle.device_rules.specs.declared.state.State.{State}
+use Rattle.device_state.specs.declared.state.State.{State}
 use Rattle.device_rules.specs.Caller.{CallerView, HasLegal, is_of}
-use Rattle.device_rules.specs.State.{initial}
+use Rattle.device_state.specs.State.{initial}
 use Rattle.device_rules.specs.Trail.{entries_of, replay, IsLegal}
 use Rattle.device_core.specs.Caller.{seen_of, Leads, LeadsOn}
 use Rattle.device_core.specs.Crash.{AddsOnly, HasAtLeast}

@@ -7,18 +7,18 @@ use Rattle.disk_model.specs.declared.disk.Disk.{Ghosts}
 use Rattle.device_journal.specs.declared.journal.Journal.{Journal}
 use Rattle.device_journal.specs.Journal.{journal_disk, journal_opened, journal_failed}
 use Rattle.device_journal.specs.Frames.{Stands, end_of}
-use Rattle.device_rules.specs.declared.state.State.{State}
+use Rattle.device_state.specs.declared.state.State.{State}
 use Rattle.device_rules.specs.declared.trail.Marked.{Marked}
 use Rattle.device_core.specs.Crash.{HasCrash}
 use Rattle.device_core.specs.Images.{payloads_of}
-use Rattle.device_rules.specs.State.{initial}
+use Rattle.device_state.specs.State.{initial, plain}
 use Rattle.device_rules.specs.Trail.{IsLegal, entries_of, replay}
 use Rattle.device_core.specs.View.{DeviceView, IsReady}
 
 abbrev pub shown : {D : Type 0} {G : Ghosts D} → Journal D G → State → List Marked → ℕ → Option Entry → DeviceView D
 shown journal state entries found rest = record {
   disk = journal_disk journal;
-  state = state;
+  state = plain state;
   entries = entries;
   found = found;
   failed = journal_failed journal;

@@ -16,7 +16,7 @@ use Rattle.device_rules.specs.declared.told.SubmitFault.TheVariants as submittin
 use Rattle.device_rules.specs.Step.{IsAllowed, IsRefused}
 use Rattle.device_rules.specs.Trail.{replay, entries_of}
 use Rattle.device_core.specs.View.{DeviceView, Stays}
-use Rattle.device_rules.specs.State.{initial}
+use Rattle.device_state.specs.State.{initial}
 use Rattle.device_core.specs.Images.{payloads_of}
 pub use Rattle.device_core.specs.Images.{ReadsAs}
 

@@ -7,8 +7,8 @@ use Rattle.device_journal.specs.Frames.{HasFrames, IsOffAt}
 use Rattle.device_journal.specs.declared.fault.OpenFault.{OpenFault}
 use Rattle.device_journal.specs.declared.fault.OpenFault.TheVariants as opening
 use Rattle.device_rules.specs.declared.refused.Refused.{Refused}
-use Rattle.device_rules.specs.declared.state.State.{State}
-use Rattle.device_rules.specs.State.{initial}
+use Rattle.device_state.specs.declared.state.State.{State}
+use Rattle.device_state.specs.State.{initial}
 use Rattle.device_rules.specs.Step.{step}
 use Rattle.device_rules.specs.Trail.{replay, IsLegal}
 

@@ -6,7 +6,8 @@ use Rattle.entry_codec.specs.Spelling.{Fits}
 use Rattle.device_journal.specs.declared.fault.OpenFault.{OpenFault}
 use Rattle.device_journal.specs.declared.fault.OpenFault.TheVariants.{BadEntry, IllegalEntry, NoMemory}
 use Rattle.device_rules.specs.declared.refused.Refused.{Refused}
-use Rattle.device_rules.specs.declared.state.State.{State}
+use Rattle.device_rules.specs.declared.refused.Refused.TheVariants as refusals
+use Rattle.device_state.specs.declared.state.State.{State}
 use Rattle.device_rules.specs.Step.{step}
 use Rattle.device_core.specs.Images.{IsOffSpelling, IsOffFrom, IsRefusedFrom, payloads_of}
 
@@ -33,6 +34,11 @@ IsStepFault state entry place (IllegalEntry position) = (position ≡ place)
     × ((why : Refused) × (step state entry ≡ Err why))
 IsStepFault state entry place NoMemory = Unit {0}
 IsStepFault state entry place _ = ⊥
+
+-- what opening answers where the rules refuse an entry at a position
+abbrev pub step_fault : Refused → ℕ → OpenFault
+step_fault refusals.NoMemory position = NoMemory
+step_fault why position = IllegalEntry position
 
 -- why entries weren't replayed
 abbrev pub IsReplayFault : List Entry → OpenFault → Type 0

@@ -2,9 +2,9 @@
 use Rattle.std.specs.Prelude.{◌≡◌, ℕ, List, [], ◌∷◌, ◌++◌, length, take, Option, Some, None, Ok}
 use Rattle.entry_form.specs.declared.entry.Entry.{Entry}
 use Rattle.device_rules.specs.declared.answer.Answer.{Answer}
-use Rattle.device_rules.specs.declared.state.State.{State}
+use Rattle.device_state.specs.declared.state.State.{State}
 use Rattle.device_rules.specs.declared.trail.Marked.{Marked}
-use Rattle.device_rules.specs.State.{initial}
+use Rattle.device_state.specs.State.{initial}
 use Rattle.device_rules.specs.Step.{step}
 use Rattle.device_rules.specs.Trail.{entries_of, marked_at, replay}
 

@@ -1,6 +1,6 @@
 ghost use Rattle.std.specs.Prelude.{◌≡◌, ◌≤◌, ℕ, ◌++◌, Some, None, true, is_some, option_to_list};
 ghost use Rattle.field_io.specs.Causes.{Rose};
-ghost use Rattle.device_rules.specs.State.{initial};
+ghost use Rattle.device_state.specs.State.{initial};
 ghost use Rattle.device_rules.specs.Trail.{entries_of, replay};
 ghost use Rattle.device_core.specs.Caller.{seen_of, refusals_after, LeadsOn};
 ghost use Rattle.device_core.specs.CallerLaws.{seen_legal, leads_on_same, leads_on_then};

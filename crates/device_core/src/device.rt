@@ -7,7 +7,7 @@ ghost use Rattle.device_rules.specs.Answers.{answer_to};
 ghost use Rattle.device_rules.specs.Opened.{is_opening};
 ghost use Rattle.device_rules.specs.Prepared.{Prepares, entry_of};
 ghost use Rattle.device_rules.specs.Refused.{rule_of};
-ghost use Rattle.device_rules.specs.State.{initial};
+ghost use Rattle.device_state.specs.State.{initial};
 ghost use Rattle.device_core.specs.Device.{IsLoaded};
 ghost use Rattle.device_core.specs.Images.{payloads_of};
 ghost use Rattle.device_journal.specs.Moments.{LeavesFrom, LeavesAsRead, IsAsRead, synced_at};
@@ -16,13 +16,12 @@ ghost use Rattle.device_rules.specs.Trail.{entries_of, IsLegal, replay};
 ghost use Rattle.device_core.specs.View.{IsOpened, Appends};
 ghost use Rattle.device_core.specs.Faults.{ContentReadsAs, HasRoom, IsAskFault, IsOpenFault, IsSubmitFault};
 
-use crate::append::{make_step, spell_with_room};
+use crate::append::{make_step, prepare_opening, spell_with_room};
 use crate::fault::open_fault;
 use crate::replay::recover;
 use device_journal::{AppendFault, Journal, OpenFault, open_journal};
-use device_rules::{
-    Marked, Prepared, Query, Refused, State, SubmitFault, Told, Trail, ask, begin, decide,
-};
+use device_rules::{Marked, Prepared, Query, Refused, SubmitFault, Told, Trail, ask, decide};
+use device_state::State;
 use disk_model::Disk;
 use entry_form::{Command, Entry, Hand, Opening};
 use field_text::Items;
@@ -115,7 +114,7 @@ impl<D: Disk> Device<D> {
         ensures crash { IfOk result (HasCrash D.since D.clock) }
     {
         let mut device = load(alloc, disk)?;
-        let Ok(prepared) = begin(alloc, &device.state, opening) else {
+        let Some(prepared) = prepare_opening(alloc, &device.state, opening) else {
             return Err((device.into_disk(), OpenFault::NoMemory));
         };
         match device.append(alloc, prepared) {
@@ -154,7 +153,7 @@ impl<D: Disk> Device<D> {
         if let Some(faults) = self.journal.failed() {
             return Err(SubmitFault::Failed { faults });
         }
-        match decide(&self.state, hand, command) {
+        match decide(alloc, &self.state, hand, command) {
             Ok(prepared) => self.append(alloc, prepared),
             Err(why) => Err(SubmitFault::Refused {
                 position: self.position(),
@@ -184,7 +183,13 @@ impl<D: Disk> Device<D> {
             → HasAtLeast (entries_of self.new.entries) told.position c) }
         ensures crash { HasCrash D.since D.clock self.new }
     {
-        let Ok(payload) = spell_with_room(alloc, prepared.entry(), &mut self.entries) else {
+        let Ok(payload) = spell_with_room(
+            alloc,
+            prepared.entry(),
+            &mut self.entries,
+            &mut self.state,
+        ) else {
+            prepared.discard();
             return Err(SubmitFault::Refused {
                 position: self.entries.len() as u64,
                 why: Refused::NoMemory,
@@ -196,8 +201,14 @@ impl<D: Disk> Device<D> {
                 let position = self.entries.len() as u64;
                 Ok(Told { position, answer })
             }
-            Err(AppendFault::Full { length }) => Err(SubmitFault::Full { length }),
-            Err(AppendFault::Failed { faults }) => Err(SubmitFault::Failed { faults }),
+            Err(AppendFault::Full { length }) => {
+                prepared.discard();
+                Err(SubmitFault::Full { length })
+            }
+            Err(AppendFault::Failed { faults }) => {
+                prepared.discard();
+                Err(SubmitFault::Failed { faults })
+            }
             Err(AppendFault::DiskFault) => {
                 self.rest = Some(prepared.into_entry());
                 Err(SubmitFault::DiskFault)

@@ -5,14 +5,15 @@ ghost use Rattle.device_journal.specs.declared.fault.OpenFault.TheVariants.{NoMe
 ghost use Rattle.entry_codec.specs.Spelling.{Fits, spelling};
 ghost use Rattle.device_core.specs.Images.{IsOffSpelling};
 ghost use Rattle.device_core.specs.Replay.{IsUnread, IsSpelledBy, IsReadFault, IsStepFault, IsReplayFault};
-ghost use Rattle.device_core.specs.Replay.{IsRecoverFault};
-ghost use Rattle.device_rules.specs.State.{initial};
+ghost use Rattle.device_core.specs.Replay.{IsRecoverFault, step_fault};
+ghost use Rattle.device_state.specs.State.{initial, plain};
 ghost use Rattle.device_rules.specs.Prepared.{Prepares};
 ghost use Rattle.device_rules.specs.Step.{IsRefused};
 ghost use Rattle.device_rules.specs.Trail.{entries_of, marked_at, replay, state_after};
 
 use device_journal::OpenFault;
-use device_rules::{Marked, Prepared, Refused, State, apply, begin, decide};
+use device_rules::{Marked, Prepared, Refused, apply, begin, decide};
+use device_state::State;
 use entry_codec::{EntryRefused, read_entry};
 use entry_form::Entry;
 use field_text::Blob;
@@ -49,12 +50,22 @@ pub fn read_payloads(alloc: Global, payloads: &[Blob]) -> Result<Vec<Entry>, Ope
 }
 
 fn prepare(alloc: Global, state: &State, entry: Entry) -> Result<Prepared, Refused>
-    ensures prepared { IfOk result (Prepares state.now entry) }
-    ensures refused { IfErr result (IsRefused state.now entry) }
+    ensures prepared { IfOk result (Prepares (plain state.now) entry) }
+    ensures refused { IfErr result (IsRefused (plain state.now) entry) }
 {
     match entry {
         Entry::Opened(opening) => begin(alloc, state, opening),
-        Entry::Done { hand, command } => decide(state, hand, command),
+        Entry::Done { hand, command } => decide(alloc, state, hand, command),
+    }
+}
+
+// What opening answers where the rules refuse an entry at this position.
+fn step_fault(why: Refused, position: u64) -> OpenFault
+    ensures { result ≡ step_fault why position }
+{
+    match why {
+        Refused::NoMemory => OpenFault::NoMemory,
+        _ => OpenFault::IllegalEntry { position },
     }
 }
 
@@ -67,18 +78,18 @@ fn step_on(
     moment: u64,
 ) -> Result<(), OpenFault>
     ensures kept { OnOk result (marked.new.items ≡ marked.old.items ++ marked_at moment entry ∷ []) }
-    ensures stepped { OnOk result (state_after state.old entry ≡ Some state.new) }
-    ensures fault { IfErr result (IsStepFault state.old entry (length marked.old.items + 1)) }
+    ensures stepped { OnOk result (state_after (plain state.old) entry ≡ Some (plain state.new)) }
+    ensures fault { IfErr result (IsStepFault (plain state.old) entry (length marked.old.items + 1)) }
 {
     let position = marked.as_slice().len() as u64 + 1;
     match prepare(alloc, state, entry) {
         Ok(prepared) => {
+            state.reserve()?;
             let (entry, _answer) = apply(state, prepared);
             marked.push(Marked { entry, moment })?;
             Ok(())
         }
-        Err(Refused::NoMemory) => Err(OpenFault::NoMemory),
-        Err(_) => Err(OpenFault::IllegalEntry { position }),
+        Err(why) => Err(step_fault(why, position)),
     }
 }
 
@@ -89,7 +100,7 @@ pub fn replay(
     moment: u64,
 ) -> Result<(State, Vec<Marked>), OpenFault>
     ensures entries { IfOk result (λ r. entries_of r.1.items ≡ entries.items) }
-    ensures legal { IfOk result (λ r. replay initial (entries_of r.1.items) ≡ Some r.0) }
+    ensures legal { IfOk result (λ r. replay initial (entries_of r.1.items) ≡ Some (plain r.0)) }
     ensures marked { IfOk result (λ r. r.1.items ≡ map (marked_at moment) (entries_of r.1.items)) }
     ensures fault { IfErr result (IsReplayFault entries.items) }
 {
@@ -110,7 +121,7 @@ pub fn recover(
     moment: u64,
 ) -> Result<(State, Vec<Marked>), OpenFault>
     ensures spelled { IfOk result (λ r. IsSpelledBy payloads.now (entries_of r.1.items)) }
-    ensures legal { IfOk result (λ r. replay initial (entries_of r.1.items) ≡ Some r.0) }
+    ensures legal { IfOk result (λ r. replay initial (entries_of r.1.items) ≡ Some (plain r.0)) }
     ensures marked { IfOk result (λ r. r.1.items ≡ map (marked_at moment) (entries_of r.1.items)) }
     ensures fault { IfErr result (IsRecoverFault payloads.now) }
 {

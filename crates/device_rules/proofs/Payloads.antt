@@ -17,16 +17,22 @@ use Rattle.entry_form.specs.declared.hand.Hand.{Hand}
 use Rattle.entry_codec.specs.Spelling.{Part, byte, number, text, blob, part_bytes, number_bytes, with_length, parts, bytes_of, IsShort}
 use Rattle.device_rules.specs.declared.answer.Answer.{Answer}
 use Rattle.device_rules.specs.declared.refused.Refused.{Refused}
-use Rattle.device_rules.specs.declared.answer.Answer.TheVariants.{Done as Answered}
-use Rattle.device_rules.specs.declared.refused.Refused.TheVariants.{BadValue, Limit, NotBuilt}
-use Rattle.device_rules.specs.declared.refused.Which.TheVariants.{Counters}
-use Rattle.device_rules.specs.declared.state.State.{State}
+use Rattle.device_rules.specs.declared.refused.Refused.TheVariants.{BadValue, NoEntry}
+use Rattle.device_state.specs.declared.state.State.{State}
 use Rattle.device_rules.specs.Limits.{most_entries, is_short, is_form_short, is_reply_short, is_moment, is_version_short, is_within_limits, answer_in}
 use Rattle.device_rules.specs.Opened.{default_server, is_opening}
 use Rattle.device_rules.specs.Payload.{FitsPayload}
-use Rattle.device_rules.specs.Step.{step}
-use Rattle.device_rules.specs.NotBuilt.{not_built}
-use Rattle.device_rules.specs.Tests.{Stepped, unless}
+use Rattle.device_rules.specs.Fill.{fill, filled}
+use Rattle.device_rules.specs.NoTables.{no_tables}
+use Rattle.device_rules.specs.Refused.{or_answer_refused}
+use Rattle.device_rules.specs.Step.{commanded, entered, step}
+use Rattle.device_rules.specs.Tests.{Stepped, open_entry, refused_if}
+use Rattle.field_text.specs.Steps.{◌>>=◌}
+use Rattle.kept_forms.proofs.KeptLemmas.{filled_short}
+use Rattle.kept_forms.specs.KeptForms.{filled_of}
+use Rattle.question_rules.specs.declared.answers.AnswerRefused.{AnswerRefused}
+use Rattle.question_rules.specs.declared.answers.AnswerRefused.TheVariants.{NoQuestion}
+use Rattle.device_rules.proofs.Steps.{then_ok}
 
 -- ---- bytes of parts
 
@@ -118,9 +124,10 @@ command_fits hand commands.Tick ok few = fits (Done hand commands.Tick) (tt, (tt
 
 -- ---- entries that aren't refused for a value
 
-not_bad : (ok : Bool) (others : Stepped) → (if not ok then Err BadValue else others) ≢ Err BadValue → ok ≡ true
-not_bad true others good = refl
-not_bad false others good = absurd (good refl)
+not_bad : (ok : Bool) (more : Unit {0} → Stepped) (purge : State × Answer → Stepped)
+    → ((refused_if (not ok) BadValue >>= more) >>= purge) ≢ Err BadValue → ok ≡ true
+not_bad true more purge good = refl
+not_bad false more purge good = absurd (good refl)
 
 opening_fits : (opening : Opening) → is_opening opening ≡ true → FitsPayload (Opened opening)
 opening_fits opening ok =
@@ -129,23 +136,56 @@ opening_fits opening ok =
     fits (Opened opening) (tt, (tt, (tt, (omega (arith, l), tt)))) (omega arith) (omega (arith, l))
 
 pub good_fits : (state : State) (entry : Entry) → step state entry ≢ Err BadValue → length (answer_in entry) ≤ 2000 → FitsPayload entry
-good_fits state (Opened opening) good few = opening_fits opening (not_bad (is_opening opening) _ good)
-good_fits state (Done hand (commands.AutoSend on)) good few = command_fits hand (commands.AutoSend on) refl few
-good_fits state (Done hand (commands.UpdateMode mode)) good few = command_fits hand (commands.UpdateMode mode) refl few
-good_fits state (Done hand command) good few = command_fits hand command (not_bad (is_within_limits command) _ good) few
+good_fits state (Opened opening) good few = opening_fits opening (not_bad (is_opening opening) _ _ good)
+good_fits state (Done hand command) good few = command_fits hand command (not_bad (is_within_limits command) _ _ good) few
 
--- a command that isn't built is never allowed
-never : (state : State) (command : Command) (x : State × Answer) → not_built state command ≡ Ok x → ⊥
-never state command x is = by (is_within_limits command) (nat_le most_entries state.counters.position) is
+-- ---- what the rules allow
+
+taken : (o : Result (List (List ℕ)) AnswerRefused) (sheet : List (List ℕ)) → or_answer_refused o ≡ Ok sheet → o ≡ Ok sheet
+taken (Ok s) sheet is = ap (λ r. or_no_sheet r) is
   where
-    by : (ok full : Bool) → unless ((not ok, BadValue) ∷ (full, Limit Counters most_entries) ∷ (true, NotBuilt) ∷ []) (state, Answered) ≡ Ok x → ⊥
-    by true true was = cc (was)
-    by true false was = cc (was)
-    by false full was = cc (was)
+    or_no_sheet : Result (List (List ℕ)) Refused → Result (List (List ℕ)) AnswerRefused
+    or_no_sheet (Ok s) = Ok s
+    or_no_sheet (Err why) = Err NoQuestion
+taken (Err why) sheet is = absurd (cc is)
 
--- what the rules allow
+fill_short : (state : State) (path value : List ℕ) (x : State × Answer) → fill state path value ≡ Ok x → length value ≤ 2000
+fill_short state path value x is =
+    let opened = then_ok (open_entry state) _ x is in
+    let filled_so = then_ok (filled opened.0 path value) _ x opened.2 in
+    filled_short no_tables opened.0.form opened.0.sheet path value filled_so.0
+    (taken (filled_of no_tables opened.0.form opened.0.sheet path value) filled_so.0 filled_so.1)
+
+-- an answer that is taken is short, and no other entry carries one
+answer_short : (state : State) (hand : Hand) (command : Command) (x : State × Answer) → commanded state command ≡ Ok x
+    → length (answer_in (Done hand command)) ≤ 2000
+answer_short state hand (commands.AutoSend on) x is = omega arith
+answer_short state hand (commands.UpdateMode mode) x is = omega arith
+answer_short state hand (commands.TakeLock round) x is = omega arith
+answer_short state hand (commands.Release lock) x is = omega arith
+answer_short state hand (commands.Load form) x is = omega arith
+answer_short state hand (commands.Ask id) x is = omega arith
+answer_short state hand (commands.Fetched job at outcome) x is = omega arith
+answer_short state hand commands.RoundDone x is = omega arith
+answer_short state hand (commands.DropForm id) x is = omega arith
+answer_short state hand (commands.Start base how) x is = omega arith
+answer_short state hand (commands.Fill path value) x is =
+    fill_short state path value x (then_ok (refused_if (not (is_short path)) BadValue) _ x is).2
+answer_short state hand commands.SaveDraft x is = omega arith
+answer_short state hand commands.Leave x is = omega arith
+answer_short state hand commands.Finalize x is = omega arith
+answer_short state hand commands.FinalizeAll x is = omega arith
+answer_short state hand (commands.DropInstance n) x is = omega arith
+answer_short state hand (commands.SendBegun n at) x is = omega arith
+answer_short state hand (commands.SendEnded n outcome) x is = omega arith
+answer_short state hand commands.Tick x is = omega arith
+
+entered_short : (state : State) (entry : Entry) (x : State × Answer) → entered state entry ≡ Ok x
+    → length (answer_in entry) ≤ 2000
+entered_short state (Opened opening) x is = omega arith
+entered_short state (Done hand command) x is = answer_short state hand command x is
+
 pub allowed_fits : (state : State) (entry : Entry) (x : State × Answer) → step state entry ≡ Ok x → FitsPayload entry
-allowed_fits state (Opened opening) x is = good_fits state (Opened opening) (λ bad. cc (is, bad)) (omega arith)
-allowed_fits state (Done hand (commands.AutoSend on)) x is = command_fits hand (commands.AutoSend on) refl (omega arith)
-allowed_fits state (Done hand (commands.UpdateMode mode)) x is = command_fits hand (commands.UpdateMode mode) refl (omega arith)
-allowed_fits state (Done hand command) x is = absurd (never state command x is)
+allowed_fits state entry x is =
+    let came = then_ok (entered state entry) _ x is in
+    good_fits state entry (λ bad. cc (is, bad)) (entered_short state entry came.0 came.1)

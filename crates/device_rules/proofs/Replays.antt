@@ -6,7 +6,7 @@ use Rattle.std.specs.Result.{result_ok}
 use Rattle.std.proofs.lemmas.List.{map-append}
 use Rattle.entry_form.specs.declared.entry.Entry.{Entry}
 use Rattle.device_rules.specs.declared.answer.Answer.{Answer}
-use Rattle.device_rules.specs.declared.state.State.{State}
+use Rattle.device_state.specs.declared.state.State.{State}
 use Rattle.device_rules.specs.declared.trail.Marked.{Marked}
 use Rattle.device_rules.specs.Step.{step}
 use Rattle.device_rules.specs.Trail.{entries_of, replay, state_after, IsLegal}

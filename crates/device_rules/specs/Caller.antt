@@ -12,7 +12,7 @@ use Rattle.entry_form.specs.Hand.{hand_number}
 use Rattle.entry_codec.specs.Spelling.{spelling}
 use Rattle.device_rules.specs.declared.answer.Query.{Query}
 use Rattle.device_rules.specs.declared.refused.Refused.{Refused}
-use Rattle.device_rules.specs.declared.state.State.{State}
+use Rattle.device_state.specs.declared.state.State.{State}
 use Rattle.device_rules.specs.declared.told.SubmitFault.{SubmitFault}
 use Rattle.device_rules.specs.declared.told.SubmitFault.TheVariants as faults
 use Rattle.device_rules.specs.declared.told.Told.{Told}

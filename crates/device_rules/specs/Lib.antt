@@ -1,5 +1,5 @@
-pub mod State
 pub mod Refused
+pub mod NoTables
 pub mod Answers
 pub mod Limits
 pub mod Payload
@@ -7,6 +7,14 @@ pub mod Tests
 pub mod Opened
 pub mod AutoSend
 pub mod UpdateMode
+pub mod Load
+pub mod DropForm
+pub mod Start
+pub mod Fill
+pub mod SaveDraft
+pub mod Leave
+pub mod DropInstance
+pub mod Tick
 pub mod NotBuilt
 pub mod Step
 pub mod Prepared

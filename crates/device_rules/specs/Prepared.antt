@@ -1,38 +1,31 @@
 -- A step that was prepared: its entry, and the state and the answer that it leads to.
-use Rattle.std.specs.Prelude.{◌≡◌, ◌<◌, Ok, Result}
-use Rattle.std.specs.Option.{unwrap_or}
+use Rattle.std.specs.Prelude.{◌≡◌, Ok, Result}
+use Rattle.device_state.specs.declared.state.State.{State}
+use Rattle.device_state.specs.Changes.{changed, replaced}
 use Rattle.field_text.specs.Steps.{Gives}
 use Rattle.entry_form.specs.declared.entry.Entry.{Entry}
 use Rattle.device_rules.specs.declared.answer.Answer.{Answer}
 use Rattle.device_rules.specs.declared.prepared.Parts.{Parts}
 use Rattle.device_rules.specs.declared.prepared.Prepared.{Prepared}
 use Rattle.device_rules.specs.declared.refused.Refused.{Refused}
-use Rattle.device_rules.specs.declared.state.State.{State}
 use Rattle.device_rules.specs.Refused.{rule_of}
 use Rattle.device_rules.specs.Step.{step}
 use Rattle.device_rules.specs.Tests.{Stepped}
 
 -- the state with these parts new, and the answer beside it
-abbrev pub replaced : State → Parts → State × Answer
-replaced state parts = (
-  record {
-    settings = unwrap_or parts.settings state.settings;
-    station = unwrap_or parts.station state.station;
-    counters = parts.counters;
-  },
-  parts.answer,
-)
+abbrev pub with_parts : State → Parts → State × Answer
+with_parts state parts = (replaced state parts.changes, parts.answer)
 
--- the parts that a room of the rules makes, or its refusal, are those of the step
+-- the parts that a command makes, or its refusal, are those of its rule
 abbrev pub Makes : State → Result Parts Refused → Stepped → Type 0
-Makes state made stepped = Gives rule_of (replaced state) made stepped
+Makes state made stepped = Gives rule_of (with_parts state) made stepped
 
 abbrev pub entry_of : Prepared → Entry
 entry_of prepared = prepared.entry
 
 -- the state and the answer after it, from a state
 abbrev pub after : Prepared → State → State × Answer
-after prepared state = replaced state prepared.parts
+after prepared state = (changed state prepared.parts.changes, prepared.parts.answer)
 
 -- the rules allow the entry, and what was prepared makes its step
 pub record Prepares (state : State) (entry : Entry) (prepared : Prepared) : Type 0 where

@@ -1,30 +1,60 @@
 -- One step of the rules: the first refusal that applies or, without one, the answer and the state behind it. Each
--- command has a file of its own.
-use Rattle.std.specs.Prelude.{◌≡◌, Ok}
-use Rattle.field_text.specs.Steps.{Tells}
+-- command has a file of its own. Behind each entry the hidden forms that nothing names are gone.
+use Rattle.std.specs.Prelude.{◌≡◌, not, Ok}
+use Rattle.device_state.specs.declared.state.State.{State}
+use Rattle.device_state.specs.Purging.{purged}
+use Rattle.field_text.specs.Steps.{◌>>=◌, Tells}
 use Rattle.entry_form.specs.declared.command.Command.{Command}
 use Rattle.entry_form.specs.declared.command.Command.TheVariants as commands
 use Rattle.entry_form.specs.declared.entry.Entry.{Entry}
 use Rattle.entry_form.specs.declared.entry.Entry.TheVariants.{Opened, Done}
 use Rattle.device_rules.specs.declared.answer.Answer.{Answer}
 use Rattle.device_rules.specs.declared.refused.Refused.{Refused}
-use Rattle.device_rules.specs.declared.state.State.{State}
+use Rattle.device_rules.specs.declared.refused.Refused.TheVariants.{BadValue}
 use Rattle.device_rules.specs.AutoSend.{auto_send}
+use Rattle.device_rules.specs.DropForm.{drop_form}
+use Rattle.device_rules.specs.DropInstance.{drop_instance}
+use Rattle.device_rules.specs.Fill.{fill}
+use Rattle.device_rules.specs.Leave.{leave}
+use Rattle.device_rules.specs.Limits.{is_within_limits}
+use Rattle.device_rules.specs.Load.{load}
 use Rattle.device_rules.specs.NotBuilt.{not_built}
 use Rattle.device_rules.specs.Opened.{opened}
 use Rattle.device_rules.specs.Refused.{rule_of}
-use Rattle.device_rules.specs.Tests.{Stepped}
+use Rattle.device_rules.specs.SaveDraft.{save_draft}
+use Rattle.device_rules.specs.Start.{start}
+use Rattle.device_rules.specs.Tests.{Stepped, refused_if}
+use Rattle.device_rules.specs.Tick.{tick}
 use Rattle.device_rules.specs.UpdateMode.{update_mode}
+
+-- a command whose values are within their limits
+abbrev pub obeyed : State → Command → Stepped
+obeyed state (commands.AutoSend on) = auto_send state on
+obeyed state (commands.UpdateMode mode) = update_mode state mode
+obeyed state (commands.Load bytes) = load state bytes
+obeyed state (commands.DropForm id) = drop_form state id
+obeyed state (commands.Start base how) = start state base how
+obeyed state (commands.Fill path value) = fill state path value
+obeyed state commands.SaveDraft = save_draft state
+obeyed state commands.Leave = leave state
+obeyed state (commands.DropInstance number) = drop_instance state number
+obeyed state commands.Tick = tick state
+obeyed state command = not_built state
 
 -- a command of a hand
 abbrev pub commanded : State → Command → Stepped
-commanded state (commands.AutoSend on) = auto_send state on
-commanded state (commands.UpdateMode mode) = update_mode state mode
-commanded state command = not_built state command
+commanded state command = do
+  within ← refused_if (not (is_within_limits command)) BadValue
+  obeyed state command
+
+abbrev pub entered : State → Entry → Stepped
+entered state (Opened opening) = opened state opening
+entered state (Done hand command) = commanded state command
 
 abbrev pub step : State → Entry → Stepped
-step state (Opened opening) = opened state opening
-step state (Done hand command) = commanded state command
+step state entry = do
+  next ← entered state entry
+  Ok (purged next.0, next.1)
 
 -- the rules don't refuse the entry
 abbrev pub IsAllowed : State → Entry → Type 0

@@ -3,7 +3,7 @@ use Rattle.std.specs.Prelude.{◌≡◌, ℕ, List, [], ◌∷◌, map, Option, 
 use Rattle.std.specs.Option.{option_and_then}
 use Rattle.std.specs.Result.{result_ok}
 use Rattle.entry_form.specs.declared.entry.Entry.{Entry}
-use Rattle.device_rules.specs.declared.state.State.{State}
+use Rattle.device_state.specs.declared.state.State.{State}
 use Rattle.device_rules.specs.declared.trail.Marked.{Marked}
 use Rattle.device_rules.specs.Step.{step}
 

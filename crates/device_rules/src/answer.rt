@@ -1,39 +1,55 @@
-ghost use Rattle.std.specs.Prelude.{◌≡◌, Ok, IfOk, IfErr};
-ghost use Rattle.field_text.specs.Steps.{Gives};
-ghost use Rattle.device_rules.specs.Answers.{answer_to};
-ghost use Rattle.device_rules.specs.Refused.{rule_of};
+use device_state::Settings;
+use field_text::{Items, Text};
+use instance_store::Status;
+use kept_forms::FieldLine;
 
-use crate::refused::Refused;
-use crate::state::State;
-use entry_form::Hand;
-use field_text::Mode;
-use std::alloc::Global;
+/// A form that is kept.
+#[derive(Debug, Drop)]
+pub struct FormLine {
+    pub id: Text,
+    pub version: Text,
+    pub hash: Text,
+    pub visible: bool,
+}
 
-/// How the device is set.
-#[derive(Clone, Copy, Debug, PartialEq, Eq)]
-pub struct Settings {
-    pub mode: Mode,
-    pub auto_send: bool,
+/// An instance that is kept.
+#[derive(Debug, Drop)]
+pub struct InstanceLine {
+    pub number: u64,
+    pub status: Status,
+    pub id: Text,
+    pub version: Text,
+    /// The id in the finalized document.
+    pub instance_id: Option<Text>,
+}
+
+/// The questionnaire that is being filled in.
+#[derive(Debug, Drop)]
+pub struct EntryView {
+    pub id: Text,
+    pub version: Text,
+    /// The fields that are no groups, in document order.
+    pub fields: Items<FieldLine>,
 }
 
 /// What is asked of a device, which changes nothing.
 #[derive(Debug, PartialEq, Eq, Drop)]
 pub enum Query {
     Settings,
+    /// All forms that are kept, hidden ones too.
+    Forms,
+    Instances,
+    EntryNow,
 }
 
 /// What a device answers to a command or a query.
-#[derive(Debug, PartialEq, Eq, Drop)]
+#[derive(Debug, Drop)]
 pub enum Answer {
     Done,
+    /// The number of the instance.
+    Number(u64),
     Settings(Settings),
-}
-
-/// What a hand's query is answered. It may be refused for want of memory.
-pub fn ask(alloc: Global, state: &State, hand: Hand, query: &Query) -> Result<Answer, Refused>
-    ensures { Gives rule_of (λ answer. answer) result (answer_to state.now hand query.now) }
-{
-    match query {
-        Query::Settings => Ok(Answer::Settings(state.settings)),
-    }
+    Forms(Items<FormLine>),
+    Instances(Items<InstanceLine>),
+    EntryNow(Option<EntryView>),
 }

@@ -1,7 +1,7 @@
 // What holds of the rules, as contracts of functions that do nothing.
 ghost use Rattle.std.specs.Prelude.{◌≡◌, ◌≢◌, ◌≤◌, length, Err, Ok};
 ghost use Rattle.entry_form.specs.declared.entry.Entry.{Entry};
-ghost use Rattle.device_rules.specs.declared.state.State.{State};
+ghost use Rattle.device_state.specs.declared.state.State.{State};
 ghost use Rattle.device_rules.specs.declared.refused.Refused.TheVariants.{BadValue};
 ghost use Rattle.device_rules.specs.Limits.{answer_in};
 ghost use Rattle.device_rules.specs.Payload.{FitsPayload};

@@ -1,21 +1,15 @@
 // A command that this device doesn't know yet. It is always refused.
+ghost use Rattle.device_state.specs.State.{plain};
 ghost use Rattle.device_rules.specs.NotBuilt.{not_built};
 ghost use Rattle.device_rules.specs.Prepared.{Makes};
 
-use crate::limits::is_within_limits;
-use crate::prepared::{FULL, Parts, is_full};
+use crate::prepared::{Parts, not_full};
 use crate::refused::Refused;
-use crate::state::State;
-use entry_form::Command;
+use device_state::State;
 
-pub(crate) fn not_built(state: &State, command: &Command) -> Result<Parts, Refused>
-    ensures { Makes state.now result (not_built state.now command.now) }
+pub(crate) fn not_built(state: &State) -> Result<Parts, Refused>
+    ensures { Makes (plain state.now) result (not_built (plain state.now)) }
 {
-    if !is_within_limits(command) {
-        return Err(Refused::BadValue);
-    }
-    if is_full(state) {
-        return Err(FULL);
-    }
+    not_full(state)?;
     Err(Refused::NotBuilt)
 }

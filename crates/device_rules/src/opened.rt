@@ -1,12 +1,13 @@
-// The device is opened: it gets a number and a server, and this counts as a tick.
+// The device is opened: it gets a number and a server, no questionnaire is open, and this counts as a tick.
 ghost use Rattle.std.specs.Prelude.{◌≡◌};
+ghost use Rattle.device_state.specs.State.{plain};
 ghost use Rattle.device_rules.specs.Opened.{is_opening, opened};
 ghost use Rattle.device_rules.specs.Prepared.{Makes};
 
 use crate::answer::Answer;
-use crate::prepared::{FULL, Parts, is_full};
+use crate::prepared::{Parts, not_full};
 use crate::refused::Refused;
-use crate::state::{State, Station};
+use device_state::{Changes, EntryChange, State, Station};
 use entry_form::Opening;
 use std::alloc::Global;
 
@@ -22,21 +23,22 @@ pub fn is_opening(opening: &Opening) -> bool
 }
 
 pub(crate) fn opened(alloc: Global, state: &State, opening: &Opening) -> Result<Parts, Refused>
-    ensures { Makes state.now result (opened state.now opening.now) }
+    ensures { Makes (plain state.now) result (opened (plain state.now) opening.now) }
 {
     if !is_opening(opening) {
         return Err(Refused::BadValue);
     }
-    if is_full(state) {
-        return Err(FULL);
-    }
+    not_full(state)?;
+    let server = opening.server.copy(alloc)?;
     Ok(Parts {
-        settings: None,
-        station: Some(Station {
-            device: opening.device,
-            server: opening.server.copy(alloc)?,
-        }),
-        counters: state.counters.ticked(),
+        changes: Changes {
+            station: Some(Station {
+                device: opening.device,
+                server,
+            }),
+            entry: EntryChange::Close,
+            ..Changes::counted(state.counters.ticked())
+        },
         answer: Answer::Done,
     })
 }

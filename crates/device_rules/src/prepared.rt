@@ -1,14 +1,17 @@
-ghost use Rattle.std.specs.Prelude.{◌≡◌, ◌<◌, ◌^◌, None, nat_le};
-ghost use Rattle.std.specs.Option.{unwrap_or};
+ghost use Rattle.std.specs.Prelude.{◌≡◌, ◌<◌, ◌^◌, OnOk};
+ghost use Rattle.field_text.specs.Steps.{Gives};
+ghost use Rattle.device_state.specs.State.{plain};
 ghost use Rattle.device_rules.specs.Limits.{most_entries};
-ghost use Rattle.device_rules.specs.Prepared.{entry_of, replaced};
+ghost use Rattle.device_rules.specs.Prepared.{entry_of};
+ghost use Rattle.device_rules.specs.Refused.{rule_of};
+ghost use Rattle.device_rules.specs.Tests.{not_full};
 
-use crate::answer::{Answer, Settings};
+use crate::answer::Answer;
 use crate::refused::{Refused, Which};
-use crate::state::{Counters, State, Station};
+use device_state::{Changes, State};
 use entry_form::Entry;
 
-const MOST_ENTRIES: u64 = 1 << 62;
+pub(crate) const MOST_ENTRIES: u64 = 1 << 62;
 
 // The refusal of every entry where the device has all that it can hold.
 pub(crate) const FULL: Refused = Refused::Limit {
@@ -16,18 +19,21 @@ pub(crate) const FULL: Refused = Refused::Limit {
     number: MOST_ENTRIES,
 };
 
-pub(crate) fn is_full(state: &State) -> bool
-    ensures { result ≡ nat_le most_entries state.now.counters.position }
+// Refuses where the device has all the entries that it can hold.
+pub(crate) fn not_full(state: &State) -> Result<(), Refused>
+    ensures full { Gives rule_of (λ u. u) result (not_full (plain state.now)) }
+    ensures room { OnOk result (state.now.counters.position < 2 ^ 62) }
 {
-    state.counters.position >= MOST_ENTRIES
+    if state.counters.position >= MOST_ENTRIES {
+        return Err(FULL);
+    }
+    Ok(())
 }
 
-/// The parts of the state that a step makes new, and its answer.
+/// What a step changes in the state, and its answer.
 #[derive(Debug, Drop)]
 pub(crate) struct Parts {
-    pub settings: Option<Settings>,
-    pub station: Option<Station>,
-    pub counters: Counters,
+    pub changes: Changes,
     pub answer: Answer,
 }
 
@@ -59,38 +65,14 @@ impl Prepared {
         entry
     }
 
+    /// Gives up a step that isn't made.
+    pub fn discard(self) {}
+
     pub(crate) fn into_parts(self) -> (Entry, Parts)
         ensures entry { result.0 ≡ self.entry }
         ensures parts { result.1 ≡ self.parts }
     {
         let Prepared { entry, parts } = self;
         (entry, parts)
-    }
-}
-
-// Puts a new part in its place.
-fn put<T: Drop>(part: &mut T, new: Option<T>)
-    ensures { part.new ≡ unwrap_or new part.old }
-{
-    if let Some(new) = new {
-        *part = new;
-    }
-}
-
-impl Parts {
-    // Puts the new parts in their places.
-    pub fn put_into(self, state: &mut State) -> Answer
-        ensures { (state.new, result) ≡ replaced state.old self }
-    {
-        let Parts {
-            settings,
-            station,
-            counters,
-            answer,
-        } = self;
-        put(&mut state.settings, settings);
-        put(&mut state.station, station);
-        state.counters = counters;
-        answer
     }
 }

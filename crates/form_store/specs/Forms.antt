@@ -1,6 +1,6 @@
 -- Lists of form records, and what each call of a store makes of them.
 use Rattle.std.specs.Prelude.{◌≡◌, ℕ, ◌<◌, ◌&&◌, ◌==◌, nat_le, Bool, true, false, if◌then◌else◌, max, List, [], ◌∷◌}
-use Rattle.std.specs.Prelude.{◌++◌, length, position, slice_get, Option, Some, None}
+use Rattle.std.specs.Prelude.{◌++◌, length, map, position, slice_get, Option, Some, None}
 use Rattle.std.specs.Option.{option_map_or}
 use Rattle.std.specs.Str.{bytes_eq}
 use Rattle.field_rows.specs.Edited.{edited}
@@ -69,6 +69,14 @@ put item records = put_by item records (check_of item records)
 
 abbrev pub hidden : FormRec → FormRec
 hidden r = record r { visible = false }
+
+-- a visible record of an id is hidden, another one stays
+abbrev pub hidden_of : List ℕ → FormRec → FormRec
+hidden_of id r = if is_shown id r then hidden r else r
+
+-- the records once the visible ones of an id are hidden
+abbrev pub all_hidden : List ℕ → List FormRec → List FormRec
+all_hidden id records = map (hidden_of id) records
 
 abbrev pub completed : FormRec → FormRec
 completed r = record r { complete = true }

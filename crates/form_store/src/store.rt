@@ -1,5 +1,8 @@
 ghost use Rattle.std.specs.Prelude.{◌≡◌, [], ◌+◌, ◌<◌, ◌≤◌, ◌&&◌, ◌==◌, length, remove, slice_get, Some, OnOk, OnErr};
+ghost use Rattle.std.specs.List.{list_any};
+ghost use Rattle.std.specs.Str.{bytes_eq};
 ghost use Rattle.field_rows.specs.Edited.{edited};
+ghost use Rattle.form_store.specs.Forms.{all_hidden, hidden_of};
 ghost use Rattle.form_store.specs.Forms.{check, check_at, check_of, completed, exact, has_bytes, hidden};
 ghost use Rattle.form_store.specs.Forms.{is_form, is_shown, is_shown_since, latest, newest, put, renewed};
 ghost use Rattle.form_store.specs.declared.records.Check.TheVariants.{Fresh};
@@ -108,15 +111,6 @@ impl FormStore {
         }
     }
 
-    /// Takes room for one more form, where there is none.
-    pub fn reserve(&mut self) -> Result<(), NoMemory>
-        ensures records { self.new.items ≡ self.old.items }
-        ensures ok { OnOk result (1 ≤ self.new.spare) }
-        ensures kept { self.old.spare ≤ self.new.spare }
-    {
-        self.rows.reserve()
-    }
-
     pub fn count(&self) -> u64
         ensures { result ≡ length self.now.items }
     {
@@ -157,12 +151,41 @@ impl FormStore {
         }
     }
 
+    /// Whether a visible record has this id.
+    pub fn has_shown(&self, id: &Text) -> bool
+        ensures { result ≡ list_any (is_shown id.now) self.now.items }
+    {
+        self.rows
+            .as_slice()
+            .iter()
+            .any(|record| is_shown(record, id))
+    }
+
+    /// Whether a record has this id, visible or hidden.
+    pub fn has_id(&self, id: &Text) -> bool
+        ensures { result ≡ list_any (λ kept. bytes_eq kept.id id.now) self.now.items }
+    {
+        self.rows
+            .as_slice()
+            .iter()
+            .any(|record| record.id.bytes() == id.bytes())
+    }
+
     /// What a form of this id, version and bytes would meet.
     pub fn check(&self, id: &Text, version: &Text, bytes: &[u8]) -> Check
         ensures { result ≡ check id.now version.now bytes.now self.now.items }
     {
         let records = self.rows.as_slice();
         check_at(records, exact(records, id, version), bytes)
+    }
+
+    /// Takes room for one more form, where there is none.
+    pub fn reserve(&mut self) -> Result<(), NoMemory>
+        ensures records { self.new.items ≡ self.old.items }
+        ensures ok { OnOk result (1 ≤ self.new.spare) }
+        ensures kept { self.old.spare ≤ self.new.spare }
+    {
+        self.rows.reserve()
     }
 
     /// Puts a form: a fresh one behind the others; one that is kept with the same bytes gets `visible`, `put_at` and
@@ -197,6 +220,30 @@ impl FormStore {
         ensures spare { self.new.spare ≡ self.old.spare }
     {
         self.rows.edit(place).visible = false;
+    }
+
+    /// Hides each visible record of this id.
+    pub fn hide_all(&mut self, id: &Text)
+        ensures records { self.new.items ≡ all_hidden id.now self.old.items }
+        ensures spare { self.new.spare ≡ self.old.spare }
+    {
+        let mut place = 0;
+        while place < self.count() {
+            self.hide_shown(place, id);
+            place += 1;
+        }
+    }
+
+    // Hides the record at this place, if it is a visible one of the id.
+    fn hide_shown(&mut self, place: u64, id: &Text)
+        requires { place < length self.old.items }
+        ensures records { self.new.items ≡ edited (hidden_of id.now) place self.old.items }
+        ensures spare { self.new.spare ≡ self.old.spare }
+    {
+        let record = self.rows.edit(place);
+        if is_shown(record, id) {
+            record.visible = false;
+        }
     }
 
     /// Makes the record at this place complete.

@@ -45,29 +45,6 @@ impl InstanceStore {
         }
     }
 
-    /// Takes room for one more instance, where there is none.
-    pub fn reserve(&mut self) -> Result<(), NoMemory>
-        ensures records { self.new.items ≡ self.old.items }
-        ensures ok { OnOk result (1 ≤ self.new.spare) }
-        ensures kept { self.old.spare ≤ self.new.spare }
-    {
-        self.rows.reserve()
-    }
-
-    pub fn count(&self) -> u64
-        ensures { result ≡ length self.now.items }
-    {
-        self.rows.count()
-    }
-
-    /// The record at this place.
-    pub fn get(&self, place: u64) -> &InstanceRec
-        requires { place < length self.now.items }
-        ensures { slice_get self.now.items place ≡ Some result.now }
-    {
-        self.rows.at(place)
-    }
-
     pub fn as_slice(&self) -> &[InstanceRec]
         ensures { result.now ≡ self.now.items }
     {
@@ -82,6 +59,15 @@ impl InstanceStore {
             Some(place) => Some(place as u64),
             None => None,
         }
+    }
+
+    /// Takes room for one more instance, where there is none.
+    pub fn reserve(&mut self) -> Result<(), NoMemory>
+        ensures records { self.new.items ≡ self.old.items }
+        ensures ok { OnOk result (1 ≤ self.new.spare) }
+        ensures kept { self.old.spare ≤ self.new.spare }
+    {
+        self.rows.reserve()
     }
 
     /// Adds an instance behind the others.

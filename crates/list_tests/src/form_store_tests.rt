@@ -77,3 +77,16 @@ fn records_change(rt: HostRuntime) -> Result<(), Fail> {
     assert_eq!(rt; store.as_slice().len(), 1);
     Ok(())
 }
+
+#[test]
+fn forms_of_an_id_are_hidden(rt: HostRuntime) -> Result<(), Fail> {
+    let alloc = rt.alloc();
+    let mut store = two_versions(alloc)?;
+    put(alloc, &mut store, ("b", "1", "x"), 14)?;
+    let id = text(alloc, "a")?;
+    assert!(rt; store.has_shown(&id));
+    store.hide_all(&id);
+    assert!(rt; store.has_id(&id) && !store.has_shown(&id));
+    assert!(rt; store.has_shown(&text(alloc, "b")?));
+    Ok(())
+}

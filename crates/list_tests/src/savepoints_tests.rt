@@ -67,3 +67,20 @@ fn sheets_are_found_by_their_keys(rt: HostRuntime) -> Result<(), Fail> {
     assert_eq!(rt; savepoints.as_slice().len(), 1);
     Ok(())
 }
+
+#[test]
+fn savepoints_on_an_instance_are_removed(rt: HostRuntime) -> Result<(), Fail> {
+    let alloc = rt.alloc();
+    let mut savepoints = Savepoints::make(alloc);
+    let blank = key(alloc, "tree", KeyBase::Blank)?;
+    let draft = key(alloc, "tree", KeyBase::Draft(3))?;
+    for base in [KeyBase::Blank, KeyBase::Draft(3), KeyBase::Edit(3)] {
+        let key = key(alloc, "tree", base)?;
+        let _kept = put(alloc, &mut savepoints, key, "oak")?;
+    }
+    savepoints.remove_on(3);
+    assert_eq!(rt; savepoints.as_slice().len(), 1);
+    assert_eq!(rt; answer_of(&savepoints, &blank), Some("oak"));
+    assert_eq!(rt; answer_of(&savepoints, &draft), None);
+    Ok(())
+}

@@ -49,7 +49,7 @@ between low high c h =
 high_scalar : (c : ℕ) → 57344 ≤ c → c < 1114112 → scalar c ≡ true
 high_scalar c low high = rw (le-ltb c 55296 (omega (arith, low)), le-leb 57344 c low, lt-ltb c 1114112 high) refl
 
-xml_char_is_scalar : (c : ℕ) → is_xml_char c ≡ true → scalar c ≡ true
+pub xml_char_is_scalar : (c : ℕ) → is_xml_char c ≡ true → scalar c ≡ true
 xml_char_is_scalar c =
     either _ _ (either _ _ (either _ _ (either _ _ (either _ _
     (λ (e : (c == 9) ≡ true). low_scalar c (omega (arith, eqb-true c 9 e)))

@@ -1,15 +1,16 @@
 -- What spells a character of a text is characters.
-use Rattle.std.proofs.Common.{◌≡◌, ℕ, ◌<◌, ◌≤◌, ◌==◌, ◌||◌, Bool, true, false, cond, List, [], ◌∷◌, ◌++◌, Option, Some, None, codes, refl, ap, ◌∙◌, inl, inr, arith, nat_lt, nat_le}
+use Rattle.std.proofs.Common.{◌≡◌, ℕ, ◌<◌, ◌≤◌, ◌==◌, Bool, true, false, cond, List, [], ◌∷◌, ◌++◌, Option, Some, None, codes, refl, ap, ◌∙◌, inl, inr, arith, nat_lt}
 use Rattle.std.specs.List.{list_all}
 use Rattle.std.specs.Str.{bytes_eq}
 use Rattle.std.specs.Char.{digit_value}
 use Rattle.std.proofs.Math.Utf8.{scalar, scalars, low_scalar}
-use Rattle.std.proofs.lemmas.Bool.{and_parts, and_from, or_cases, leb-true, ltb-true, eqb-true, le-ltb, le-leb, lt-ltb, cases_lt}
+use Rattle.std.proofs.lemmas.Bool.{and_parts, and_from, ltb-true, eqb-true, le-ltb, cases_lt}
 use Rattle.std.proofs.lemmas.Slice.Eq.{bytes_eq-Decides}
-use Rattle.field_text.specs.Xml.{is_between, is_xml_char}
+use Rattle.field_text.specs.Xml.{is_xml_char}
 use Rattle.rosa_pieces.specs.declared.piece.CharData.{CharData}
 use Rattle.rosa_pieces.specs.declared.piece.CharData.TheVariants.{Literal, Reference}
 use Rattle.rosa_pieces.specs.Pieces.{IsCharData, referenced, numeric, numbered, named}
+use Rattle.rosa_doc.proofs.LocalNames.{xml_char_is_scalar}
 
 pub scalars-append : (xs ys : List ℕ) → scalars xs ≡ true → scalars ys ≡ true → scalars (xs ++ ys) ≡ true
 scalars-append [] ys h k = k
@@ -77,27 +78,6 @@ reference_is_scalars (x ∷ xs) c h = elim (x == 35) as (λ b. (x == 35) ≡ b �
 ] refl h
 
 -- ---- characters of a text
-
-either : {P : Type 0} (x y : Bool) → (x ≡ true → P) → (y ≡ true → P) → (x || y) ≡ true → P
-either x y f g h = elim (or_cases x y h) [ inl a ↦ f a | inr b ↦ g b ]
-
-between : (low high c : ℕ) → is_between low high c ≡ true → (low ≤ c) × (c ≤ high)
-between low high c h =
-    let both = and_parts (nat_le low c) (nat_le c high) h in
-    (leb-true low c both.0, leb-true c high both.1)
-
-high_scalar : (c : ℕ) → 57344 ≤ c → c < 1114112 → scalar c ≡ true
-high_scalar c low high = rw (le-ltb c 55296 (omega (arith, low)), le-leb 57344 c low, lt-ltb c 1114112 high) refl
-
-pub xml_char_is_scalar : (c : ℕ) → is_xml_char c ≡ true → scalar c ≡ true
-xml_char_is_scalar c =
-    either _ _ (either _ _ (either _ _ (either _ _ (either _ _
-    (λ (e : (c == 9) ≡ true). low_scalar c (omega (arith, eqb-true c 9 e)))
-    (λ (e : (c == 10) ≡ true). low_scalar c (omega (arith, eqb-true c 10 e))))
-    (λ e. low_scalar c (omega (arith, eqb-true c 13 e))))
-    (λ e. let b = between 0x20 0xD7FF c e in low_scalar c (omega (arith, b.1))))
-    (λ e. let b = between 0xE000 0xFFFD c e in high_scalar c b.0 (omega (arith, b.1))))
-    (λ e. let b = between 0x10000 0x10FFFF c e in high_scalar c (omega (arith, b.0)) (omega (arith, b.1)))
 
 pub data_is_scalars : (d : CharData) (cs : List ℕ) → IsCharData d cs → scalars cs ≡ true
 data_is_scalars (Literal c) cs h =

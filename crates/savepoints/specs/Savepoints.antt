@@ -1,9 +1,12 @@
 -- Savepoints: a list in which each key stands once at most.
-use Rattle.std.specs.Prelude.{ℕ, Bool, List, [], ◌∷◌, ◌++◌, position, remove, slice_get, Option, Some, None, option_map}
+use Rattle.std.specs.Prelude.{ℕ, Bool, false, not, ◌==◌, List, [], ◌∷◌, ◌++◌, position, remove, slice_get, Option, Some, None, option_map}
+use Rattle.std.specs.List.{filter}
 use Rattle.std.specs.Option.{option_and_then}
 use Rattle.field_rows.specs.Edited.{edited}
 use Rattle.savepoints.specs.Keys.{same_key}
 use Rattle.savepoints.specs.declared.keys.Key.{Key}
+use Rattle.savepoints.specs.declared.keys.KeyBase.{KeyBase}
+use Rattle.savepoints.specs.declared.keys.KeyBase.TheVariants.{Blank, Draft, Edit}
 use Rattle.savepoints.specs.declared.store.Savepoint.{Savepoint}
 
 abbrev pub is_at : Key → Savepoint → Bool
@@ -35,3 +38,16 @@ removed_at savepoints (Some place) = remove savepoints place
 -- the savepoints without that of a key
 abbrev pub removed : Key → List Savepoint → List Savepoint
 removed key savepoints = removed_at savepoints (place_of key savepoints)
+
+abbrev pub base_on : ℕ → KeyBase → Bool
+base_on number Blank = false
+base_on number (Draft base) = base == number
+base_on number (Edit base) = base == number
+
+-- a savepoint of a draft or an edit of the instance with this number
+abbrev pub stands_on : ℕ → Savepoint → Bool
+stands_on number s = base_on number s.key.base
+
+-- the savepoints without those that stand on an instance
+abbrev pub removed_on : ℕ → List Savepoint → List Savepoint
+removed_on number savepoints = filter (λ s. not (stands_on number s)) savepoints

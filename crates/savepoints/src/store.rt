@@ -1,8 +1,8 @@
 ghost use Rattle.std.specs.Prelude.{◌≡◌, [], ◌+◌, ◌<◌, ◌≤◌, None, option_map, OnOk};
-ghost use Rattle.savepoints.specs.Savepoints.{found, is_at, place_of, put, removed, sheet_at};
+ghost use Rattle.savepoints.specs.Savepoints.{found, is_at, place_of, put, removed, removed_on, sheet_at, stands_on};
 
-use crate::Key;
 use crate::keys::same_key;
+use crate::{Key, KeyBase};
 use field_rows::Rows;
 use field_text::NoMemory;
 use question_rules::Sheet;
@@ -39,6 +39,15 @@ fn place_of(savepoints: &[Savepoint], key: &Key) -> Option<usize>
         .position(|savepoint| same_key(key, &savepoint.key))
 }
 
+fn stands_on(savepoint: &Savepoint, number: u64) -> bool
+    ensures { result ≡ stands_on number savepoint.now }
+{
+    match savepoint.key.base {
+        KeyBase::Blank => false,
+        KeyBase::Draft(base) | KeyBase::Edit(base) => base == number,
+    }
+}
+
 impl Savepoints {
     /// No savepoints, and no room.
     pub fn make(alloc: Global) -> Savepoints
@@ -50,21 +59,6 @@ impl Savepoints {
         }
     }
 
-    /// Takes room for one more savepoint, where there is none.
-    pub fn reserve(&mut self) -> Result<(), NoMemory>
-        ensures savepoints { self.new.items ≡ self.old.items }
-        ensures ok { OnOk result (1 ≤ self.new.spare) }
-        ensures kept { self.old.spare ≤ self.new.spare }
-    {
-        self.rows.reserve()
-    }
-
-    pub fn as_slice(&self) -> &[Savepoint]
-        ensures { result.now ≡ self.now.items }
-    {
-        self.rows.as_slice()
-    }
-
     /// The sheet of this key.
     pub fn find(&self, key: &Key) -> Option<&Sheet>
         ensures { option_map (λ sheet. sheet.now) result ≡ found key.now self.now.items }
@@ -74,6 +68,21 @@ impl Savepoints {
             Some(place) => Some(&savepoints[place].sheet),
             None => None,
         }
+    }
+
+    pub fn as_slice(&self) -> &[Savepoint]
+        ensures { result.now ≡ self.now.items }
+    {
+        self.rows.as_slice()
+    }
+
+    /// Takes room for one more savepoint, where there is none.
+    pub fn reserve(&mut self) -> Result<(), NoMemory>
+        ensures savepoints { self.new.items ≡ self.old.items }
+        ensures ok { OnOk result (1 ≤ self.new.spare) }
+        ensures kept { self.old.spare ≤ self.new.spare }
+    {
+        self.rows.reserve()
     }
 
     /// Puts the sheet of a key, and gives the one that it had.
@@ -88,6 +97,21 @@ impl Savepoints {
             None => {
                 self.rows.push(Savepoint { key, sheet });
                 None
+            }
+        }
+    }
+
+    /// Takes out each savepoint that stands on the instance with this number; the others stay in their order.
+    pub fn remove_on(&mut self, number: u64)
+        ensures savepoints { self.new.items ≡ removed_on number self.old.items }
+        ensures spare { self.old.spare ≤ self.new.spare }
+    {
+        let mut place = 0;
+        while place < self.rows.count() {
+            if stands_on(self.rows.at(place), number) {
+                self.rows.remove(place);
+            } else {
+                place += 1;
             }
         }
     }

@@ -1,8 +1,12 @@
-//! Tests of replies and requests of HTTP and one exchange.
+//! Tests of replies and requests of HTTP, submissions and one exchange.
 //! Each public function is called once, and what no contract says is told by examples.
 #![tactic(auto)]
 
 #[cfg(test)]
 mod http_reply_tests;
 #[cfg(test)]
+mod http_request_tests;
+#[cfg(test)]
 mod http_wire_tests;
+#[cfg(test)]
+mod submission_wire_tests;

@@ -1,5 +1,5 @@
 use Rattle.std.proofs.Common.{◌≡◌, length, map}
-use Rattle.collect_text.specs.Rows.{LineRow, meaning_among, words_meaning}
+use Rattle.collect_text.specs.Rows.{meaning_among, words_meaning}
 use Rattle.collect_text.proofs.rows.line_of_words.Given as goal
 
 abbrev pub invariant-loop-rest : goal.invariant-loop-rest

@@ -1,4 +1,5 @@
 use Rattle.std.proofs.Common.{refl, sym}
+use Rattle.device_laws.proofs.Histories.{history_keeps}
 use Rattle.collect_top.proofs.Headlines.{headline, headline_of_usage}
 use Rattle.collect_top.proofs.top.collect_alone.Goals as goal
 
@@ -19,3 +20,9 @@ returns-clause-headline g c =
     (record { left = g.So.Source.left c.run-disk.new.source; held = g.Si.Sink.held c.run-disk.new.sink; source_faults = g.So.Source.faults c.run-disk.new.source; sink_faults = g.Si.Sink.faults c.run-disk.new.sink })
     (record { left = g.So.Source.left c.run-disk.new.source; held = g.Si.Sink.held c.finish-status-2.new.sink; source_faults = g.So.Source.faults c.run-disk.new.source; sink_faults = g.Si.Sink.faults c.finish-status-2.new.sink })
     _ _ c.run-disk.ensures (c.finish-status-2.ensures.stop (g.So.Source.left c.run-disk.new.source) (g.So.Source.faults c.run-disk.new.source)) _ c.finish-status-2.ensures.status)
+
+pub returns-in_default-clause-used_forms : goal.returns-in_default-clause-used_forms
+returns-in_default-clause-used_forms g c = history_keeps _
+
+pub returns-clause-used_forms : goal.returns-clause-used_forms
+returns-clause-used_forms g c = history_keeps _

@@ -1,5 +1,5 @@
 use Rattle.std.specs.Prelude.{◌++◌, option_to_list}
-use Rattle.device_rules.specs.State.{initial}
+use Rattle.device_state.specs.State.{initial}
 use Rattle.device_rules.specs.Trail.{entries_of}
 use Rattle.device_core.specs.CallerLaws.{legal_is}
 use Rattle.device_core.proofs.Calling.{dues}

@@ -1,6 +1,6 @@
 use Rattle.std.proofs.Common.{rules, ◌≡◌, ◌+◌, ◌∷◌, [], ◌++◌, ℕ, List, length, refl, sym, ◌∙◌, ap, subst, arith}
 use Rattle.std.specs.Prelude.{Ok, Err, Some, option_to_list}
-use Rattle.entry_codec.specs.Spelling.{Fits, spelling}
+use Rattle.entry_codec.specs.Spelling.{Fits, IsShort, spelling}
 use Rattle.device_journal.specs.declared.fault.AppendFault.TheVariants as journal
 use Rattle.device_journal.specs.Frames.{Stands, HasFrames}
 use Rattle.device_journal.specs.Journal.{journal_disk, journal_length, journal_opened, journal_failed}
@@ -15,10 +15,15 @@ use Rattle.device_core.specs.Images.{payloads_of}
 use Rattle.device_rules.specs.Prepared.{entry_of}
 use Rattle.device_rules.specs.Step.{IsAllowed}
 use Rattle.device_rules.specs.Trail.{entries_of, marked_at}
-use Rattle.device_core.proofs.Appending.{was_sound, had_room, ok_not_failed, done_as, failed_as, kept_ok, kept_fault}
+use Rattle.device_state.specs.State.{plain}
+use Rattle.device_core.proofs.Appending.{stepped_on, was_sound, had_room, ok_not_failed, done_as, failed_as, kept_ok, kept_fault}
 use Rattle.device_core.proofs.Crashes.{adds_grown, lasts}
 use Rattle.device_rules.proofs.Payloads.{allowed_fits}
 use Rattle.device_core.proofs.device.Device.append.Goals as goal
+
+pub spell_with_room-requires : goal.spell_with_room-requires
+spell_with_room-requires g c =
+    subst IsShort (sym c.entry.ensures) (allowed_fits _ (entry_of c.args.prepared) _ c.requires.stepped).short
 
 pub append-requires-clause-small : goal.append-requires-clause-small
 append-requires-clause-small g c =
@@ -37,7 +42,7 @@ invariant_of-self-in-Ok-append g c =
     let disk = journal_disk i.journal in
     kept_ok d.content d.since d.clock (shown i.journal i.state i.entries.items i.found i.rest) (shown new c.make_step-answer.new.state c.make_step-answer.new.entries.items i.found i.rest)
     (journal_length i.journal) (journal_length new) entry c.make_step-answer.result moment c.self.invariant sound (subst (λ x. Fits x) c.entry.ensures c.in-Ok.ensures.fits)
-    c.append.ensures.opened refl refl (c.make_step-answer.ensures.kept ∙ ap (λ l. l ++ marked_at moment entry ∷ []) c.in-Ok.ensures.same) c.make_step-answer.ensures.stepped
+    c.append.ensures.opened refl refl (c.make_step-answer.ensures.kept ∙ ap (λ l. l ++ marked_at moment entry ∷ []) c.in-Ok.ensures.same) (stepped_on (plain c.spell_with_room.new.state) (plain i.state) (plain c.make_step-answer.new.state) entry c.make_step-answer.result c.in-Ok.ensures.same_state c.make_step-answer.ensures.stepped)
     (subst (λ q. (payloads : List (List ℕ)) → Stands (d.content disk) payloads → LeavesOnly d.clock d.since disk (journal_disk new) (IsBeforeOrAfter payloads q)) e (c.append.ensures.any_moment sound))
     c.in-Ok-append.ensures.moment
     (subst (λ q. (payloads : List (List ℕ)) → Stands (d.content disk) payloads → (x : List ℕ) → d.since (journal_disk new) moment x → HasFrames x (payloads ++ q ∷ [])) e (λ payloads st. c.in-Ok-append.ensures.durable payloads st))
@@ -85,20 +90,8 @@ returns-in-Ok-append-clause-durable g c x left =
 pub returns-in-Ok-append-clause-legal : goal.returns-in-Ok-append-clause-legal
 returns-in-Ok-append-clause-legal g c = (invariant_of-self-in-Ok-append g c).rest_legal
 
-pub returns-in-Err-Full-clause-crash : goal.returns-in-Err-Full-clause-crash
-returns-in-Err-Full-clause-crash g c =
-    let d = g.D.Disk in
-    let same : c.match-prepared-4.self ≡ c.args.self.now = search rules in
-    subst (HasCrash d.since d.clock) (c.self.view_is ∙ sym same) c.self.invariant.crash
-
-pub returns-in-Err-Failed-clause-crash : goal.returns-in-Err-Failed-clause-crash
-returns-in-Err-Failed-clause-crash g c =
-    let d = g.D.Disk in
-    let same : c.match-prepared-6.self ≡ c.args.self.now = search rules in
-    subst (HasCrash d.since d.clock) (c.self.view_is ∙ sym same) c.self.invariant.crash
-
-pub invariant_of-self-in-DiskFault-1 : goal.invariant_of-self-in-DiskFault-1
-invariant_of-self-in-DiskFault-1 g c =
+pub invariant_of-self-in-Err-DiskFault : goal.invariant_of-self-in-Err-DiskFault
+invariant_of-self-in-Err-DiskFault g c =
     let d = g.D.Disk in
     let i = c.self.inside in
     let entry = (entry_of c.args.prepared) in
@@ -107,19 +100,19 @@ invariant_of-self-in-DiskFault-1 g c =
     let sound = was_sound (journal_failed i.journal) c.append.result (Err journal.DiskFault) was (λ n f. absurd (cc (f))) c.append.ensures.failed in
     let new = c.append.new.self in
     let disk = journal_disk i.journal in
-    kept_fault d.content d.since d.clock (shown i.journal i.state i.entries.items i.found i.rest) (shown new i.state c.spell_with_room.new.entries.items i.found (Some c.into_entry.result))
+    kept_fault d.content d.since d.clock (shown i.journal i.state i.entries.items i.found i.rest) (shown new c.spell_with_room.new.state c.spell_with_room.new.entries.items i.found (Some c.into_entry.result))
     (journal_length i.journal) (journal_length new) (d.faults (journal_disk new)) entry c.self.invariant sound (c.append.ensures.fault_kept was) (subst (λ x. Fits x) c.entry.ensures c.in-Ok.ensures.fits)
-    (subst (λ v. IsAllowed v.state entry) (sym c.self.view_is) (_, c.requires.stepped)) c.append.ensures.opened refl c.in-Ok.ensures.same refl (ap (λ x. Some x) c.into_entry.ensures)
+    (subst (λ v. IsAllowed v.state entry) (sym c.self.view_is) (_, c.requires.stepped)) c.append.ensures.opened refl c.in-Ok.ensures.same c.in-Ok.ensures.same_state (ap (λ x. Some x) c.into_entry.ensures)
     (subst (λ q. (payloads : List (List ℕ)) → Stands (d.content disk) payloads → LeavesOnly d.clock d.since disk (journal_disk new) (IsBeforeOrAfter payloads q)) e (c.append.ensures.any_moment sound))
 
-pub returns-in-Err-DiskFault-clause-crash : goal.returns-in-Err-DiskFault-clause-crash
-returns-in-Err-DiskFault-clause-crash g c = (invariant_of-self-in-DiskFault-1 g c).crash
+pub returns-clause-crash : goal.returns-clause-crash
+returns-clause-crash g c = (invariant_of-self-in-Err-DiskFault g c.before).crash
 
-pub returns-in-Err-DiskFault-clause-legal : goal.returns-in-Err-DiskFault-clause-legal
-returns-in-Err-DiskFault-clause-legal g c = (invariant_of-self-in-DiskFault-1 g c).rest_legal
+pub returns-clause-legal : goal.returns-clause-legal
+returns-clause-legal g c = (invariant_of-self-in-Err-DiskFault g c.before).rest_legal
 
-pub returns-in-Err-DiskFault-clause-fault : goal.returns-in-Err-DiskFault-clause-fault
-returns-in-Err-DiskFault-clause-fault g c =
+pub returns-clause-fault : goal.returns-clause-fault
+returns-clause-fault g c =
     let d = g.D.Disk in
     let i = c.self.inside in
     let entry = entry_of c.args.prepared in
@@ -130,13 +123,13 @@ returns-in-Err-DiskFault-clause-fault g c =
     let room = had_room (journal_length i.journal) (length c.deref.result.now) c.append.result (Err journal.DiskFault) told (λ n f. absurd (cc (f))) (c.append.ensures.full sound) in
     let has : HasRoom (entries_of i.entries.items) entry = omega (arith, room, is.size_is, ap length e) in
     let allowed = subst (λ v. IsAllowed v.state entry) (sym c.self.view_is) (_, c.requires.stepped) in
-    let stays : Stays (shown i.journal i.state i.entries.items i.found i.rest) (shown c.append.new.self i.state c.spell_with_room.new.entries.items i.found (Some c.into_entry.result)) =
-    record { entries = c.in-Ok.ensures.same; state = refl; found = refl } in
-    subst (λ v. IsSubmitFault d.content d.faults entry v (shown c.append.new.self i.state c.spell_with_room.new.entries.items i.found (Some c.into_entry.result)) DiskFault) c.self.view_is
+    let stays : Stays (shown i.journal i.state i.entries.items i.found i.rest) (shown c.append.new.self c.spell_with_room.new.state c.spell_with_room.new.entries.items i.found (Some c.into_entry.result)) =
+    record { entries = c.in-Ok.ensures.same; state = c.in-Ok.ensures.same_state; found = refl } in
+    subst (λ v. IsSubmitFault d.content d.faults entry v (shown c.append.new.self c.spell_with_room.new.state c.spell_with_room.new.entries.items i.found (Some c.into_entry.result)) DiskFault) c.self.view_is
     (stays, c.append.ensures.fault told, allowed, has)
 
-pub returns-in-Err-DiskFault-clause-any_moment : goal.returns-in-Err-DiskFault-clause-any_moment
-returns-in-Err-DiskFault-clause-any_moment g c =
+pub returns-clause-any_moment : goal.returns-clause-any_moment
+returns-clause-any_moment g c =
     let d = g.D.Disk in
     let i = c.self.inside in
     let entry = (entry_of c.args.prepared) in

@@ -28,49 +28,39 @@ returns-in_default-clause-any_moment_err g c =
     subst (λ n. LeavesUnopened d.clock d.may d.since (d.content c.args.disk) (Opened c.args.opening) NoMemory c.args.disk n) (sym c.into_disk.ensures)
     (from_load d.clock d.may d.since d.content c.args.disk c.in_ok-device.device (Opened c.args.opening) NoMemory c.in_ok-device.ensures.moment c.in_ok-device.ensures.as_read)
 
-pub returns-in-Ok-append-clause-opened : goal.returns-in-Ok-append-clause-opened
-returns-in-Ok-append-clause-opened g c =
-    is_opened c.in_ok-device.device c.append.new.self (entry_of c.in-Ok.prepared) (Opened c.args.opening) c.in-Ok-append.field-0.position c.in-Ok-append.field-0.answer
-    c.in_ok-device.ensures.loaded c.in-Ok-append.ensures.appended c.in-Ok.ensures.prepared.same
+pub returns-in-Ok-clause-opened : goal.returns-in-Ok-clause-opened
+returns-in-Ok-clause-opened g c =
+    is_opened c.in_ok-device.device c.append.new.self (entry_of c.in-Some.prepared) (Opened c.args.opening) c.in-Ok.field-0.position c.in-Ok.field-0.answer
+    c.in_ok-device.ensures.loaded c.in-Ok.ensures.appended c.in-Some.ensures.same
 
-pub returns-in-Ok-append-clause-read : goal.returns-in-Ok-append-clause-read
-returns-in-Ok-append-clause-read g c =
-    let is = found_is c.in_ok-device.device c.append.new.self (entry_of c.in-Ok.prepared) (Opened c.args.opening) c.in-Ok-append.field-0.position c.in-Ok-append.field-0.answer
-    c.in_ok-device.ensures.loaded c.in-Ok-append.ensures.appended c.in-Ok.ensures.prepared.same in
+pub returns-in-Ok-clause-read : goal.returns-in-Ok-clause-read
+returns-in-Ok-clause-read g c =
+    let is = found_is c.in_ok-device.device c.append.new.self (entry_of c.in-Some.prepared) (Opened c.args.opening) c.in-Ok.field-0.position c.in-Ok.field-0.answer
+    c.in_ok-device.ensures.loaded c.in-Ok.ensures.appended c.in-Some.ensures.same in
     subst (λ l. ContentReadsAs g.D.Disk.content c.args.disk (Ok l)) (sym is) c.in_ok-device.ensures.read
 
-pub returns-in-Ok-append-clause-any_moment : goal.returns-in-Ok-append-clause-any_moment
-returns-in-Ok-append-clause-any_moment g c =
+pub returns-in-Ok-clause-any_moment : goal.returns-in-Ok-clause-any_moment
+returns-in-Ok-clause-any_moment g c =
     let d = g.D.Disk in
-    opened_leaves d.since d.clock c.in_ok-device.device c.append.new.self (entry_of c.in-Ok.prepared) c.args.disk c.in-Ok-append.field-0.position c.in-Ok-append.field-0.answer
-    c.in_ok-device.ensures.loaded c.in-Ok-append.ensures.appended c.append.ensures.opened c.in_ok-device.ensures.any_moment c.append.ensures.any_moment
+    opened_leaves d.since d.clock c.in_ok-device.device c.append.new.self (entry_of c.in-Some.prepared) c.args.disk c.in-Ok.field-0.position c.in-Ok.field-0.answer
+    c.in_ok-device.ensures.loaded c.in-Ok.ensures.appended c.append.ensures.opened c.in_ok-device.ensures.any_moment c.append.ensures.any_moment
 
-pub returns-in-Ok-append-clause-room : goal.returns-in-Ok-append-clause-room
-returns-in-Ok-append-clause-room g c =
+pub returns-in-Ok-clause-room : goal.returns-in-Ok-clause-room
+returns-in-Ok-clause-room g c =
     let device = c.in_ok-device.device in
-    let is = found_is device c.append.new.self (entry_of c.in-Ok.prepared) (Opened c.args.opening) c.in-Ok-append.field-0.position c.in-Ok-append.field-0.answer
-    c.in_ok-device.ensures.loaded c.in-Ok-append.ensures.appended c.in-Ok.ensures.prepared.same in
-    let room = subst (λ e. HasRoom (entries_of device.entries) e) c.in-Ok.ensures.prepared.same c.in-Ok-append.ensures.room in
+    let is = found_is device c.append.new.self (entry_of c.in-Some.prepared) (Opened c.args.opening) c.in-Ok.field-0.position c.in-Ok.field-0.answer
+    c.in_ok-device.ensures.loaded c.in-Ok.ensures.appended c.in-Some.ensures.same in
+    let room = subst (λ e. HasRoom (entries_of device.entries) e) c.in-Some.ensures.same c.in-Ok.ensures.room in
     subst (λ l. HasRoom l (Opened c.args.opening)) (sym is) room
 
-pub returns-in-Err-clause-fault : goal.returns-in-Err-clause-fault
-returns-in-Err-clause-fault g c =
-    let d = g.D.Disk in
-    let device = c.in_ok-device.device in
-    let h = append_fault d.content d.faults c.args.disk (entry_of c.in-Ok.prepared) device c.append.new.self c.in-Err.fault c.in-Err.ensures.fault
-    c.in_ok-device.ensures.loaded.ready.sound c.in_ok-device.ensures.kept c.in_ok-device.ensures.read in
-    subst (λ e. IsOpenFault d.content d.faults e c.args.disk c.into_disk-in-Err.result c.open_fault.result) c.in-Ok.ensures.prepared.same
-    (subst (λ n. IsOpenFault d.content d.faults (entry_of c.in-Ok.prepared) c.args.disk n c.open_fault.result) (sym c.into_disk-in-Err.ensures)
-    (subst (λ f. IsOpenFault d.content d.faults (entry_of c.in-Ok.prepared) c.args.disk c.append.new.self.disk f) (sym c.open_fault.ensures) h))
-
-pub returns-in-Err-clause-any_moment_err : goal.returns-in-Err-clause-any_moment_err
-returns-in-Err-clause-any_moment_err g c =
+pub returns-clause-any_moment_err : goal.returns-clause-any_moment_err
+returns-clause-any_moment_err g c =
     let d = g.D.Disk in
     let device = c.in_ok-device.device in
     let new = c.append.new.self in
     let content = d.content c.args.disk in
-    let left = left_unopened d.clock d.may d.since d.content d.faults c.args.disk device new (entry_of c.in-Ok.prepared) c.in_ok-device.ensures.moment c.in_ok-device.ensures.as_read
+    let left = left_unopened d.clock d.may d.since d.content d.faults c.args.disk device new (entry_of c.in-Some.prepared) c.in_ok-device.ensures.moment c.in_ok-device.ensures.as_read
     c.in-Err.fault c.in-Err.ensures.fault (λ is. (c.append.ensures.stopped (c.in-Err.is ∙ ap (λ f. Err f) is)).1) c.in_ok-device.ensures.read c.append.ensures.any_moment in
     subst (λ n. LeavesUnopened d.clock d.may d.since content (Opened c.args.opening) c.open_fault.result c.args.disk n) (sym c.into_disk-in-Err.ensures)
     (subst (λ f. LeavesUnopened d.clock d.may d.since content (Opened c.args.opening) f c.args.disk new.disk) (sym c.open_fault.ensures)
-    (subst (λ e. LeavesUnopened d.clock d.may d.since content e (open_fault_of c.in-Err.fault) c.args.disk new.disk) c.in-Ok.ensures.prepared.same left))
+    (subst (λ e. LeavesUnopened d.clock d.may d.since content e (open_fault_of c.in-Err.fault) c.args.disk new.disk) c.in-Some.ensures.same left))

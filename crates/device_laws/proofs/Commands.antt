@@ -1,0 +1,214 @@
+-- Each entry leaves whatever names a form a kept one.
+use Rattle.std.proofs.Common.{◌≡◌, ℕ, List, [], Bool, true, Option, Some, None, Result, Ok, Err, refl, ◌∙◌, ap, subst}
+use Rattle.std.specs.Prelude.{◌&&◌, ◌+◌, not, option_map}
+use Rattle.std.specs.List.{AllByRecursion, list_any}
+use Rattle.std.specs.Option.{IfSome}
+use Rattle.std.specs.Str.{bytes_eq}
+use Rattle.device_rules.proofs.Steps.{then_ok}
+use Rattle.device_rules.specs.AutoSend.{auto_send}
+use Rattle.device_rules.specs.declared.answer.Answer.{Answer}
+use Rattle.device_rules.specs.declared.refused.Refused.{Refused}
+use Rattle.device_rules.specs.declared.refused.Refused.TheVariants.{BadValue, InUse, NoEntry, NoForm, NoInstance}
+use Rattle.device_rules.specs.DropForm.{drop_form}
+use Rattle.device_rules.specs.DropInstance.{drop_instance, stands_on}
+use Rattle.device_rules.specs.Fill.{fill, filled}
+use Rattle.device_rules.specs.Leave.{leave}
+use Rattle.device_rules.specs.Limits.{is_within_limits}
+use Rattle.device_rules.specs.Load.{form_record, load, load_by, put_form, read_form}
+use Rattle.device_rules.specs.NotBuilt.{not_built}
+use Rattle.device_rules.specs.Opened.{is_opening, opened}
+use Rattle.device_rules.specs.Refused.{or_form_refused}
+use Rattle.device_rules.specs.SaveDraft.{draft_of, instances_with, name_of, save_draft, saved}
+use Rattle.device_rules.specs.Start.{instance_of}
+use Rattle.device_rules.specs.Step.{entered, obeyed}
+use Rattle.device_rules.specs.Tests.{found_or, not_full, open_entry, refused_if}
+use Rattle.device_rules.specs.Tick.{tick}
+use Rattle.device_rules.specs.UpdateMode.{update_mode}
+use Rattle.device_state.specs.Changes.{with_sheet}
+use Rattle.device_state.specs.declared.entry.OpenEntry.{OpenEntry}
+use Rattle.device_state.specs.declared.state.State.{State}
+use Rattle.device_state.specs.Entries.{key_of}
+use Rattle.entry_form.specs.declared.command.Command.{Command}
+use Rattle.entry_form.specs.declared.command.Command.TheVariants as commands
+use Rattle.entry_form.specs.declared.entry.Entry.{Entry}
+use Rattle.entry_form.specs.declared.entry.Entry.TheVariants.{Opened, Done}
+use Rattle.entry_form.specs.declared.entry.Opening.{Opening}
+use Rattle.field_text.specs.declared.mode.Mode.{Mode}
+use Rattle.form_read.specs.declared.refusal.FormRefused.{FormRefused as FormFault}
+use Rattle.form_store.specs.declared.records.Check.{Check}
+use Rattle.form_store.specs.declared.records.Check.TheVariants.{Fresh, Same, OtherBytes, Full}
+use Rattle.form_store.specs.declared.records.FormRec.{FormRec}
+use Rattle.form_store.specs.Forms.{check, is_shown}
+use Rattle.instance_store.specs.declared.records.InstanceRec.{InstanceRec}
+use Rattle.kept_forms.specs.KeptForms.{id_of, is_form, kept_form, version_of}
+use Rattle.savepoints.specs.declared.keys.Key.{Key}
+use Rattle.savepoints.specs.declared.keys.KeyBase.{KeyBase}
+use Rattle.savepoints.specs.declared.keys.KeyBase.TheVariants.{Blank, Draft, Edit}
+use Rattle.device_laws.specs.Soundness.{AnyByRecursion, HasInstanceForm, HasOpenForm, HasSavepointForm, IsSound}
+use Rattle.device_laws.proofs.Following.{Follows, came, follows}
+use Rattle.device_laws.proofs.Forms.{follow_themselves, hiding_follows, put_follows}
+use Rattle.device_laws.proofs.KeptForms.{kept_reads}
+use Rattle.device_laws.proofs.Lists.{any_then}
+use Rattle.device_laws.proofs.Rows.{all_added, all_dropped, all_gone, all_gone_on, all_put, all_replaced}
+use Rattle.device_laws.proofs.Starts.{found_some, start_keeps}
+
+-- ---- settings, ticks and openings
+
+auto_keeps : (state : State) (on : Bool) (x : State × Answer) → auto_send state on ≡ Ok x → IsSound state
+    → Follows state x.0
+auto_keeps state on x is sound = came (Follows state) _ _ x (then_ok (not_full state) _ x is).2
+    (follows state _ sound (follow_themselves state.forms.items) sound.instances sound.savepoints sound.entry)
+
+mode_keeps : (state : State) (mode : Mode) (x : State × Answer) → update_mode state mode ≡ Ok x → IsSound state
+    → Follows state x.0
+mode_keeps state mode x is sound = came (Follows state) _ _ x (then_ok (not_full state) _ x is).2
+    (follows state _ sound (follow_themselves state.forms.items) sound.instances sound.savepoints sound.entry)
+
+tick_keeps : (state : State) (x : State × Answer) → tick state ≡ Ok x → IsSound state → Follows state x.0
+tick_keeps state x is sound = came (Follows state) _ _ x (then_ok (not_full state) _ x is).2
+    (follows state _ sound (follow_themselves state.forms.items) sound.instances sound.savepoints sound.entry)
+
+opened_keeps : (state : State) (opening : Opening) (x : State × Answer) → opened state opening ≡ Ok x → IsSound state
+    → Follows state x.0
+opened_keeps state opening x is sound =
+    let within = then_ok (refused_if (not (is_opening opening)) BadValue) _ x is in
+    came (Follows state) _ _ x (then_ok (not_full state) _ x within.2).2
+    (follows state _ sound (follow_themselves state.forms.items) sound.instances sound.savepoints tt)
+
+not_built_keeps : (state : State) (x : State × Answer) → not_built state ≡ Ok x → IsSound state → Follows state x.0
+not_built_keeps state x is sound = absurd (cc ((then_ok (not_full state) _ x is).2))
+
+-- ---- forms
+
+form_or : (o : Result (List ℕ) FormFault) (form : List ℕ) → or_form_refused o ≡ Ok form → o ≡ Ok form
+form_or (Ok bytes) form is = ap (λ r. back r) is
+  where
+    back : Result (List ℕ) Refused → Result (List ℕ) FormFault
+    back (Ok b) = Ok b
+    back (Err w) = Ok []
+form_or (Err why) form is = absurd (cc is)
+
+put_keeps : (state : State) (bytes : List ℕ) (x : State × Answer) → is_form bytes ≡ true → put_form state bytes ≡ Ok x
+    → IsSound state → Follows state x.0
+put_keeps state bytes x reads is sound = came (Follows state) _ _ x (then_ok (not_full state) _ x is).2
+    (follows state _ sound
+    (put_follows (form_record bytes (state.counters.position + 1)) state.forms.items
+    (record { form = reads; id = refl; version = refl }))
+    sound.instances sound.savepoints sound.entry)
+
+load_by_keeps : (state : State) (bytes : List ℕ) (met : Check) (x : State × Answer) → is_form bytes ≡ true
+    → load_by state bytes met ≡ Ok x → IsSound state → Follows state x.0
+load_by_keeps state bytes Fresh x reads is sound = put_keeps state bytes x reads is sound
+load_by_keeps state bytes (Same place) x reads is sound = put_keeps state bytes x reads is sound
+load_by_keeps state bytes (OtherBytes place) x reads is sound = absurd (cc is)
+load_by_keeps state bytes Full x reads is sound = absurd (cc is)
+
+load_keeps : (state : State) (bytes : List ℕ) (x : State × Answer) → load state bytes ≡ Ok x → IsSound state
+    → Follows state x.0
+load_keeps state bytes x is sound =
+    let form = then_ok (read_form bytes) _ x is in
+    let reads = kept_reads bytes form.0 (form_or (kept_form bytes) form.0 form.1) in
+    load_by_keeps state form.0 (check (id_of form.0) (version_of form.0) form.0 state.forms.items) x
+    (ap is_form reads.0 ∙ reads.1) form.2 sound
+
+drop_form_keeps : (state : State) (id : List ℕ) (x : State × Answer) → drop_form state id ≡ Ok x → IsSound state
+    → Follows state x.0
+drop_form_keeps state id x is sound =
+    let there = then_ok (refused_if (not (list_any (is_shown id) state.forms.items)) NoForm) _ x is in
+    came (Follows state) _ _ x (then_ok (not_full state) _ x there.2).2
+    (follows state _ sound (hiding_follows id state.forms.items) sound.instances sound.savepoints sound.entry)
+
+-- ---- the open questionnaire
+
+-- its form is kept
+open_kept : (state : State) (entry : OpenEntry) → open_entry state ≡ Ok entry → IsSound state
+    → HasOpenForm state.forms.items entry
+open_kept state entry is sound =
+    subst (λ o. IfSome o (HasOpenForm state.forms.items)) (found_some state.entry NoEntry entry is) sound.entry
+
+filled_open : (forms : List FormRec) (entry : Option OpenEntry) (sheet : List (List ℕ))
+    → IfSome entry (HasOpenForm forms)
+    → IfSome (option_map (with_sheet sheet) entry) (HasOpenForm forms)
+filled_open forms None sheet has = tt
+filled_open forms (Some entry) sheet has = any_then forms (λ r is. record { names = is.names; bytes = is.bytes }) has
+
+-- a savepoint with this key names the record
+abbrev key_names : FormRec → Key → Bool
+key_names r key = bytes_eq key.form r.id && bytes_eq key.version r.version
+
+fill_keeps : (state : State) (path value : List ℕ) (x : State × Answer) → fill state path value ≡ Ok x → IsSound state
+    → Follows state x.0
+fill_keeps state path value x is sound =
+    let entry = then_ok (open_entry state) _ x is in
+    let sheet = then_ok (filled entry.0 path value) _ x entry.2 in
+    came (Follows state) _ _ x (then_ok (not_full state) _ x sheet.2).2
+    (follows state _ sound (follow_themselves state.forms.items) sound.instances
+    (all_put (λ key. AnyByRecursion (λ r. key_names r key ≡ true) state.forms.items) (key_of entry.0) sheet.0
+    state.savepoints.items
+    (any_then state.forms.items (λ r is. is.names) (open_kept state entry.0 entry.1 sound)) sound.savepoints)
+    (filled_open state.forms.items state.entry sheet.0 sound.entry))
+
+leave_keeps : (state : State) (x : State × Answer) → leave state ≡ Ok x → IsSound state → Follows state x.0
+leave_keeps state x is sound =
+    let entry = then_ok (open_entry state) _ x is in
+    came (Follows state) _ _ x (then_ok (not_full state) _ x entry.2).2
+    (follows state _ sound (follow_themselves state.forms.items) sound.instances
+    (all_gone (HasSavepointForm state.forms.items) (key_of entry.0) state.savepoints.items sound.savepoints) tt)
+
+all_with : (P : InstanceRec → Type 0) (base : KeyBase) (item : InstanceRec) (kept : List InstanceRec) → P item
+    → AllByRecursion P kept → AllByRecursion P (instances_with base item kept)
+all_with P Blank item kept holds all = all_added P item kept holds all
+all_with P (Edit number) item kept holds all = all_added P item kept holds all
+all_with P (Draft number) item kept holds all = all_replaced P item kept holds all
+
+save_keeps : (state : State) (x : State × Answer) → save_draft state ≡ Ok x → IsSound state → Follows state x.0
+save_keeps state x is sound =
+    let entry = then_ok (open_entry state) _ x is in
+    let name = then_ok (name_of state entry.0.base) _ x entry.2 in
+    came (Follows state) (saved state entry.0 name.0) _ x (then_ok (not_full state) _ x name.2).2
+    (follows state (saved state entry.0 name.0) sound (follow_themselves state.forms.items)
+    (all_with (HasInstanceForm state.forms.items) entry.0.base (draft_of name.0 entry.0) state.instances.items
+    (any_then state.forms.items (λ r is. is.names) (open_kept state entry.0 entry.1 sound)) sound.instances)
+    (all_gone (HasSavepointForm state.forms.items) (key_of entry.0) state.savepoints.items sound.savepoints) tt)
+
+-- ---- instances
+
+drop_instance_keeps : (state : State) (number : ℕ) (x : State × Answer) → drop_instance state number ≡ Ok x
+    → IsSound state → Follows state x.0
+drop_instance_keeps state number x is sound =
+    let there = then_ok (found_or (instance_of state number) NoInstance) _ x is in
+    let unused = then_ok (refused_if (stands_on number state.entry) (InUse number)) _ x there.2 in
+    came (Follows state) _ _ x (then_ok (not_full state) _ x unused.2).2
+    (follows state _ sound (follow_themselves state.forms.items)
+    (all_dropped (HasInstanceForm state.forms.items) number state.instances.items sound.instances)
+    (all_gone_on (HasSavepointForm state.forms.items) number state.savepoints.items sound.savepoints) sound.entry)
+
+-- ---- any entry
+
+obeyed_keeps : (state : State) (command : Command) (x : State × Answer) → obeyed state command ≡ Ok x → IsSound state
+    → Follows state x.0
+obeyed_keeps state (commands.AutoSend on) x is sound = auto_keeps state on x is sound
+obeyed_keeps state (commands.UpdateMode mode) x is sound = mode_keeps state mode x is sound
+obeyed_keeps state (commands.TakeLock round) x is sound = not_built_keeps state x is sound
+obeyed_keeps state (commands.Release lock) x is sound = not_built_keeps state x is sound
+obeyed_keeps state (commands.Load bytes) x is sound = load_keeps state bytes x is sound
+obeyed_keeps state (commands.Ask id) x is sound = not_built_keeps state x is sound
+obeyed_keeps state (commands.Fetched job at outcome) x is sound = not_built_keeps state x is sound
+obeyed_keeps state commands.RoundDone x is sound = not_built_keeps state x is sound
+obeyed_keeps state (commands.DropForm id) x is sound = drop_form_keeps state id x is sound
+obeyed_keeps state (commands.Start base how) x is sound = start_keeps state base how x is sound
+obeyed_keeps state (commands.Fill path value) x is sound = fill_keeps state path value x is sound
+obeyed_keeps state commands.SaveDraft x is sound = save_keeps state x is sound
+obeyed_keeps state commands.Leave x is sound = leave_keeps state x is sound
+obeyed_keeps state commands.Finalize x is sound = not_built_keeps state x is sound
+obeyed_keeps state commands.FinalizeAll x is sound = not_built_keeps state x is sound
+obeyed_keeps state (commands.DropInstance number) x is sound = drop_instance_keeps state number x is sound
+obeyed_keeps state (commands.SendBegun number at) x is sound = not_built_keeps state x is sound
+obeyed_keeps state (commands.SendEnded number outcome) x is sound = not_built_keeps state x is sound
+obeyed_keeps state commands.Tick x is sound = tick_keeps state x is sound
+
+pub entered_keeps : (state : State) (entry : Entry) (x : State × Answer) → entered state entry ≡ Ok x → IsSound state
+    → Follows state x.0
+entered_keeps state (Opened opening) x is sound = opened_keeps state opening x is sound
+entered_keeps state (Done hand command) x is sound =
+    obeyed_keeps state command x (then_ok (refused_if (not (is_within_limits command)) BadValue) _ x is).2 sound

@@ -1,0 +1,55 @@
+// An answer is given to a question of the open questionnaire, and its savepoint is kept.
+ghost use Rattle.std.specs.Prelude.{◌≡◌};
+ghost use Rattle.field_text.specs.Steps.{Gives};
+ghost use Rattle.device_state.specs.State.{plain};
+ghost use Rattle.device_rules.specs.Fill.{fill, filled};
+ghost use Rattle.device_rules.specs.Prepared.{Makes};
+ghost use Rattle.device_rules.specs.Refused.{rule_of};
+
+use crate::answer::Answer;
+use crate::no_tables::NoTables;
+use crate::prepared::{Parts, not_full};
+use crate::refused::Refused;
+use device_state::{Changes, EntryChange, OpenEntry, SavepointChange, State};
+use field_text::Text;
+use question_rules::Sheet;
+use savepoints::Savepoint;
+use std::alloc::Global;
+
+// The sheet of the open questionnaire behind an answer.
+fn filled(alloc: Global, entry: &OpenEntry, path: &Text, value: &Text) -> Result<Sheet, Refused>
+    ensures { Gives rule_of (λ sheet. sheet) result (filled entry.now path.now value.now) }
+{
+    Ok(
+        entry
+            .form
+            .filled_sheet(alloc, &NoTables, &entry.sheet, path, value)?,
+    )
+}
+
+pub(crate) fn fill(
+    alloc: Global,
+    state: &State,
+    path: &Text,
+    value: &Text,
+) -> Result<Parts, Refused>
+    ensures { Makes (plain state.now) result (fill (plain state.now) path.now value.now) }
+{
+    let Some(entry) = &state.entry else {
+        return Err(Refused::NoEntry);
+    };
+    let sheet = filled(alloc, entry, path, value)?;
+    not_full(state)?;
+    let savepoint = Savepoint {
+        key: entry.key(alloc)?,
+        sheet: sheet.copy(alloc)?,
+    };
+    Ok(Parts {
+        changes: Changes {
+            savepoints: SavepointChange::Put(savepoint),
+            entry: EntryChange::Fill(sheet),
+            ..Changes::counted(state.counters.one_further())
+        },
+        answer: Answer::Done,
+    })
+}

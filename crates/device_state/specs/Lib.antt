@@ -1,0 +1,5 @@
+pub mod State
+pub mod Entries
+pub mod Numbered
+pub mod Purging
+pub mod Changes

@@ -1,0 +1,25 @@
+-- Instances by their numbers, which grow.
+use Rattle.std.specs.Prelude.{ℕ, Bool, ◌&&◌, nat_lt, if◌then◌else◌, List, [], ◌∷◌, ◌++◌, length, remove, slice_set}
+use Rattle.std.specs.List.{list_all}
+use Rattle.std.specs.Option.{option_map_or}
+use Rattle.instance_store.specs.Instances.{instance_limit, place_of}
+use Rattle.instance_store.specs.declared.records.InstanceRec.{InstanceRec}
+
+abbrev pub is_below : ℕ → InstanceRec → Bool
+is_below number k = nat_lt k.number number
+
+-- the number is greater than all, and there may be one more
+abbrev pub can_add : ℕ → List InstanceRec → Bool
+can_add number kept = nat_lt (length kept) instance_limit && list_all (is_below number) kept
+
+-- with one more behind the others, where it can stand there
+abbrev pub added : InstanceRec → List InstanceRec → List InstanceRec
+added item kept = if can_add item.number kept then kept ++ item ∷ [] else kept
+
+-- with this one in the place of the one that has its number
+abbrev pub replaced_by : InstanceRec → List InstanceRec → List InstanceRec
+replaced_by item kept = option_map_or (λ place. slice_set kept place item) (place_of item.number kept) kept
+
+-- without the one that has this number
+abbrev pub dropped : ℕ → List InstanceRec → List InstanceRec
+dropped number kept = option_map_or (λ place. remove kept place) (place_of number kept) kept

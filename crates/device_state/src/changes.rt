@@ -1,0 +1,202 @@
+// What an entry changes, part by part.
+ghost use Rattle.std.specs.Prelude.{◌≡◌, ◌<◌};
+ghost use Rattle.std.specs.List.{list_all};
+ghost use Rattle.std.specs.Option.{unwrap_or};
+ghost use Rattle.device_state.specs.Changes.{counted, entry_changed, forms_changed, instances_changed, savepoints_changed};
+ghost use Rattle.device_state.specs.Numbered.{added, can_add, dropped, is_below, replaced_by};
+
+use crate::entry::OpenEntry;
+use crate::state::{Counters, Settings, Station};
+use field_text::Text;
+use form_store::{FormRec, FormStore};
+use instance_store::{INSTANCE_LIMIT, InstanceRec, InstanceStore};
+use question_rules::Sheet;
+use savepoints::{Key, Savepoint, Savepoints};
+
+/// What becomes of the forms.
+#[derive(Debug, Drop)]
+pub enum FormChange {
+    Keep,
+    Put(FormRec),
+    /// The visible records of this id are hidden.
+    Hide(Text),
+}
+
+/// What becomes of the instances.
+#[derive(Debug, Drop)]
+pub enum InstanceChange {
+    Keep,
+    Add(InstanceRec),
+    /// It takes the place of the one with its number.
+    Replace(InstanceRec),
+    /// The one with this number is taken out.
+    Remove(u64),
+}
+
+/// What becomes of the savepoints.
+#[derive(Debug, Drop)]
+pub enum SavepointChange {
+    Keep,
+    Put(Savepoint),
+    Remove(Key),
+    /// Those of the instance with this number are taken out.
+    RemoveOn(u64),
+}
+
+/// What becomes of the questionnaire that is being filled in.
+#[derive(Debug, Drop)]
+pub enum EntryChange {
+    Keep,
+    Close,
+    Open(OpenEntry),
+    /// The open one has this sheet.
+    Fill(Sheet),
+}
+
+/// What an entry changes in a state, with all the memory that it takes.
+#[derive(Debug, Drop)]
+pub struct Changes {
+    pub settings: Option<Settings>,
+    pub station: Option<Station>,
+    pub counters: Counters,
+    pub forms: FormChange,
+    pub instances: InstanceChange,
+    pub savepoints: SavepointChange,
+    pub entry: EntryChange,
+}
+
+impl Changes {
+    /// No changes but of what is counted.
+    pub fn counted(counters: Counters) -> Changes
+        ensures { result ≡ counted counters }
+    {
+        Changes {
+            settings: None,
+            station: None,
+            counters,
+            forms: FormChange::Keep,
+            instances: InstanceChange::Keep,
+            savepoints: SavepointChange::Keep,
+            entry: EntryChange::Keep,
+        }
+    }
+}
+
+// Puts a new part in its place.
+pub(crate) fn put<T: Drop>(part: &mut T, new: Option<T>)
+    ensures { part.new ≡ unwrap_or new part.old }
+{
+    if let Some(new) = new {
+        *part = new;
+    }
+}
+
+impl FormChange {
+    pub(crate) fn put_into(self, forms: &mut FormStore)
+        requires { 0 < forms.old.spare }
+        ensures { forms.new.items ≡ forms_changed self forms.old.items }
+    {
+        match self {
+            FormChange::Keep => {}
+            FormChange::Put(record) => forms.put(record),
+            FormChange::Hide(id) => forms.hide_all(&id),
+        }
+    }
+}
+
+fn is_below(kept: &InstanceRec, number: u64) -> bool
+    ensures { result ≡ is_below number kept.now }
+{
+    kept.number < number
+}
+
+fn are_below(kept: &[InstanceRec], number: u64) -> bool
+    ensures { result ≡ list_all (is_below number) kept.now }
+{
+    kept.iter().all(|kept| is_below(kept, number))
+}
+
+// Whether an instance with this number can stand behind the others.
+fn can_add(kept: &[InstanceRec], number: u64) -> bool
+    ensures { result ≡ can_add number kept.now }
+{
+    (kept.len() as u64) < INSTANCE_LIMIT && are_below(kept, number)
+}
+
+fn add(instances: &mut InstanceStore, item: InstanceRec)
+    requires { 0 < instances.old.spare }
+    ensures { instances.new.items ≡ added item instances.old.items }
+{
+    if can_add(instances.as_slice(), item.number) {
+        instances.add(item);
+    }
+}
+
+fn replace(instances: &mut InstanceStore, item: InstanceRec)
+    ensures { instances.new.items ≡ replaced_by item instances.old.items }
+{
+    if let Some(place) = instances.place_of(item.number) {
+        let _replaced = instances.replace(place, item);
+    }
+}
+
+fn remove(instances: &mut InstanceStore, number: u64)
+    ensures { instances.new.items ≡ dropped number instances.old.items }
+{
+    if let Some(place) = instances.place_of(number) {
+        let _removed = instances.remove(place);
+    }
+}
+
+impl InstanceChange {
+    pub(crate) fn put_into(self, instances: &mut InstanceStore)
+        requires { 0 < instances.old.spare }
+        ensures { instances.new.items ≡ instances_changed self instances.old.items }
+    {
+        match self {
+            InstanceChange::Keep => {}
+            InstanceChange::Add(item) => add(instances, item),
+            InstanceChange::Replace(item) => replace(instances, item),
+            InstanceChange::Remove(number) => remove(instances, number),
+        }
+    }
+}
+
+impl SavepointChange {
+    pub(crate) fn put_into(self, savepoints: &mut Savepoints)
+        requires { 0 < savepoints.old.spare }
+        ensures { savepoints.new.items ≡ savepoints_changed self savepoints.old.items }
+    {
+        match self {
+            SavepointChange::Keep => {}
+            SavepointChange::Put(savepoint) => {
+                let Savepoint { key, sheet } = savepoint;
+                let _replaced = savepoints.put(key, sheet);
+            }
+            SavepointChange::Remove(key) => {
+                let _removed = savepoints.remove(&key);
+            }
+            SavepointChange::RemoveOn(number) => savepoints.remove_on(number),
+        }
+    }
+}
+
+// The open entry has this sheet, if one is open.
+fn fill(entry: &mut Option<OpenEntry>, sheet: Sheet)
+    ensures { entry.new ≡ entry_changed (EntryChange.Fill sheet) entry.old }
+{
+    if let Some(entry) = entry {
+        entry.sheet = sheet;
+    }
+}
+
+pub(crate) fn put_entry(entry: &mut Option<OpenEntry>, change: EntryChange)
+    ensures { entry.new ≡ entry_changed change entry.old }
+{
+    match change {
+        EntryChange::Keep => {}
+        EntryChange::Close => *entry = None,
+        EntryChange::Open(opened) => *entry = Some(opened),
+        EntryChange::Fill(sheet) => fill(entry, sheet),
+    }
+}

@@ -1,0 +1,10 @@
+pub mod MarkupLemmas
+pub mod RowLemmas
+pub mod Characters
+pub mod ReturnLemmas
+pub mod Given
+pub mod Tags
+pub mod Levels
+pub mod Parts
+pub mod MetaWritten
+pub mod DocumentWritten

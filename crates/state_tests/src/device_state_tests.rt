@@ -1,0 +1,71 @@
+use device_state::{
+    Changes, Counters, EntryChange, FormChange, InstanceChange, SavepointChange, State,
+};
+use field_text::{Blob, Text};
+use form_store::FormRec;
+use std::alloc::Global;
+use std::process::Abort;
+use std::test::Fail;
+
+fn form(alloc: Global) -> Result<FormRec, Fail> {
+    Ok(FormRec {
+        id: Text::from_bytes(alloc, b"leaf")?,
+        version: Text::from_bytes(alloc, b"2")?,
+        bytes: Blob::from_bytes(alloc, b"<a/>")?,
+        hash: Text::from_bytes(alloc, b"md5:")?,
+        auto: None,
+        put_at: 1,
+        visible: true,
+        complete: true,
+    })
+}
+
+fn with_forms(counters: Counters, forms: FormChange) -> Changes {
+    Changes {
+        settings: None,
+        station: None,
+        counters,
+        forms,
+        instances: InstanceChange::Keep,
+        savepoints: SavepointChange::Keep,
+        entry: EntryChange::Keep,
+    }
+}
+
+fn change(state: &mut State, changes: Changes) -> Result<(), Fail> {
+    state.reserve()?;
+    state.change(changes);
+    Ok(())
+}
+
+fn check_hiding(rt: &impl Abort, alloc: Global, state: &mut State) -> Result<(), Fail> {
+    let counters = state.counters;
+    let put = FormChange::Put(form(alloc)?);
+    change(state, with_forms(counters, put))?;
+    assert_eq!(rt; state.forms.count(), 1);
+    let id = Text::from_bytes(alloc, b"leaf")?;
+    change(state, with_forms(counters, FormChange::Hide(id)))?;
+    assert_eq!(rt; state.forms.count(), 0);
+    Ok(())
+}
+
+#[test]
+fn hidden_forms_that_nothing_names_are_gone(rt: HostRuntime) -> Result<(), Fail> {
+    let mut state = State::initial(rt.alloc());
+    check_hiding(&rt, rt.alloc(), &mut state)
+}
+
+#[test]
+fn entries_are_counted(rt: HostRuntime) -> Result<(), Fail> {
+    let counters = Counters {
+        position: 4,
+        last_tick: 1,
+        next_instance: 2,
+    };
+    assert_eq!(rt; counters.one_further().position, 5);
+    assert_eq!(rt; counters.ticked().last_tick, 5);
+    assert_eq!(rt; counters.one_more().next_instance, 3);
+    let changes = Changes::counted(counters);
+    assert!(rt; changes.settings.is_none());
+    Ok(())
+}
