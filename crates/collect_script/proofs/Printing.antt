@@ -45,6 +45,7 @@ told_by_rules (refusals.HasEdit number) result other tells = tells
 told_by_rules (refusals.InUse number) result other tells = tells
 told_by_rules (refusals.Answer why) result other tells = tells
 told_by_rules (refusals.FormRefused why) result other tells = tells
+told_by_rules (refusals.NotFinal why) result other tells = tells
 told_by_rules (refusals.OtherBytes kept new) result other tells = tells
 told_by_rules (refusals.Limit which number) result other tells = tells
 told_by_rules refusals.NoMemory result other tells = absurd (other refl)

@@ -147,7 +147,7 @@ pub fn line_text<K: Caller>(
     ensures stops { IfErr result (SaysNothing (K.seen caller.old) (K.seen caller.new) line) }
     ensures leads { K.leads caller.old caller.new }
 {
-    let shape = match line.shape() {
+    let shape = match line.shape(alloc) {
         Ok(shape) => shape,
         Err(NoMemory) => return Err(ScriptStop::NoMemory),
     };

@@ -154,8 +154,8 @@ fn lines_of_fixed_words_have_meanings(rt: HostRuntime) -> Result<(), Fail> {
         (b"save", "Give(SaveDraft)"),
         (b"save 1", "Bad"),
         (b"leave", "Give(Leave)"),
-        (b"finalize", "NotBuilt"),
-        (b"finalizeall", "NotBuilt"),
+        (b"finalize", "Give(Finalize)"),
+        (b"finalizeall", "Give(FinalizeAll)"),
         (b"send", "NotBuilt"),
         (b"update", "NotBuilt"),
         (b"lists", "NotBuilt"),
@@ -190,9 +190,9 @@ fn lines_with_numbers_have_meanings(rt: HostRuntime) -> Result<(), Fail> {
         (b"drop \"12\"", "Give(DropInstance(12))"),
         (b"drop", "Bad"),
         (b"drop 1 2", "Bad"),
-        (b"show doc 3", "NotBuilt"),
+        (b"show doc 3", "Look(DocOf(3))"),
         (b"show doc oak", "Bad"),
-        (b"show list 3", "NotBuilt"),
+        (b"show list", "Bad"),
         (b"show tree 3", "Bad"),
     ];
     for (line, want) in cases {
@@ -305,7 +305,12 @@ fn short_answers_are_printed(rt: HostRuntime) -> Result<(), Fail> {
         let found = printed(rt.alloc(), &shape, &answer)?;
         assert_eq!(rt; found.as_slice(), want);
     }
-    assert!(rt; matches!(Line::Give(Command::SaveDraft).shape()?, Shape::Saved));
+    assert!(rt;
+        matches!(
+            Line::Give(Command::SaveDraft).shape(rt.alloc())?,
+            Shape::Saved
+        )
+    );
     Ok(())
 }
 

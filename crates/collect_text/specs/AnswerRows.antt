@@ -1,9 +1,12 @@
 -- The lines below the first line of an answer: one for each form, instance or field.
 use Rattle.std.specs.Prelude.{ℕ, List, [], ◌++◌, Bool, true, false, codes, Option, Some, None}
 use Rattle.std.specs.List.{flat_map}
+use Rattle.entity_lists.specs.declared.entities.EntityRow.{EntityRow}
+use Rattle.entity_lists.specs.declared.entities.Prop.{Prop}
 use Rattle.kept_forms.specs.declared.lines.FieldLine.{FieldLine}
 use Rattle.device_rules.specs.declared.answer.Answer.{Answer}
-use Rattle.device_rules.specs.declared.answer.Answer.TheVariants.{Done, Number, Settings, Forms, Instances, EntryNow}
+use Rattle.device_rules.specs.declared.answer.Answer.TheVariants.{Bulk, Counts, Doc, Done, Entities, EntryNow}
+use Rattle.device_rules.specs.declared.answer.Answer.TheVariants.{Forms, Instances, Number, Settings}
 use Rattle.device_rules.specs.declared.answer.EntryView.{EntryView}
 use Rattle.device_rules.specs.declared.answer.FormLine.{FormLine}
 use Rattle.device_rules.specs.declared.answer.InstanceLine.{InstanceLine}
@@ -48,6 +51,29 @@ abbrev pub entry_rows : Option EntryView → List ℕ
 entry_rows (Some entry) = flat_map field_row entry.fields
 entry_rows None = []
 
+-- the version that the server gave last; `-` stands for none
+abbrev pub spaced_trunk : Option ℕ → List ℕ
+spaced_trunk (Some version) = spaced_number version
+spaced_trunk None = codes " -"
+
+abbrev pub online_word : Bool → List ℕ
+online_word true = codes " online"
+online_word false = codes " offline"
+
+-- the id, the label and the version of an entity
+unfoldable pub entity_start : EntityRow → List ℕ
+entity_start row = codes "entity" ++ spaced_text row.id ++ spaced_text row.label ++ spaced_number row.version
+
+-- its trunk version, its branch, and whether the server's list had it
+unfoldable pub entity_branch : EntityRow → List ℕ
+entity_branch row = spaced_trunk row.trunk ++ spaced_text row.branch ++ online_word row.online
+
+abbrev pub property : Prop → List ℕ
+property prop = spaced_text prop.name ++ spaced_text prop.value
+
+abbrev pub entity_row : EntityRow → List ℕ
+entity_row row = entity_start row ++ entity_branch row ++ flat_map property row.props ++ codes "\n"
+
 abbrev pub answer_rows : Answer → List ℕ
 answer_rows Done = []
 answer_rows (Number number) = []
@@ -55,3 +81,7 @@ answer_rows (Settings settings) = []
 answer_rows (Forms forms) = flat_map form_row forms
 answer_rows (Instances instances) = flat_map instance_row instances
 answer_rows (EntryNow entry) = entry_rows entry
+answer_rows (Bulk counts) = []
+answer_rows (Doc bytes) = []
+answer_rows (Entities rows) = flat_map entity_row rows
+answer_rows (Counts counts) = []

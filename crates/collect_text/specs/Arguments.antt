@@ -8,8 +8,9 @@ use Rattle.entry_form.specs.declared.command.Base.TheVariants.{Blank, Draft, Edi
 use Rattle.entry_form.specs.declared.command.Command.TheVariants.{DropForm, DropInstance, Fill, Load, Start}
 use Rattle.entry_form.specs.declared.command.How.{How}
 use Rattle.entry_form.specs.declared.command.How.TheVariants.{Fresh, Recover, Discard}
+use Rattle.device_rules.specs.declared.answer.Query.TheVariants as queries
 use Rattle.collect_text.specs.declared.line.Line.{Line}
-use Rattle.collect_text.specs.declared.line.Line.TheVariants.{Bad, NotBuilt, Give}
+use Rattle.collect_text.specs.declared.line.Line.TheVariants.{Bad, NotBuilt, Look, Give}
 
 -- the number below 2^64 whose decimal digits, without leading zeros, these bytes are
 unfoldable pub number_of : List ℕ → Option ℕ
@@ -56,12 +57,12 @@ abbrev pub start_line : List (List ℕ) → Line
 start_line [] = Bad
 start_line (id ∷ words) = start_of id words
 
--- open N [recover or discard]
+-- open N, and perhaps recover or discard
 abbrev pub open_line : List (List ℕ) → Line
 open_line [] = Bad
 open_line (number ∷ words) = started_at (option_map Draft (number_of number)) words
 
--- edit N [recover or discard]
+-- edit N, and perhaps one of these
 abbrev pub edit_line : List (List ℕ) → Line
 edit_line [] = Bad
 edit_line (number ∷ words) = started_at (option_map Edit (number_of number)) words
@@ -96,13 +97,13 @@ get_line (id ∷ []) = NotBuilt
 get_line words = Bad
 
 abbrev pub shown_doc : Option ℕ → Line
-shown_doc (Some number) = NotBuilt
+shown_doc (Some number) = Look (queries.DocOf number)
 shown_doc None = Bad
 
 abbrev pub shown : List ℕ → List ℕ → Line
 shown what name =
     if bytes_eq what (codes "doc") then shown_doc (number_of name)
-    else if bytes_eq what (codes "list") then NotBuilt
+    else if bytes_eq what (codes "list") then Look (queries.Entities name)
     else Bad
 
 -- show doc N, show list NAME

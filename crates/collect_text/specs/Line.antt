@@ -1,13 +1,14 @@
 -- The meaning of a line of a script.
 use Rattle.std.specs.Prelude.{ℕ, List, Option, Some, None, if◌then◌else◌}
 use Rattle.entry_form.specs.declared.command.Command.TheVariants.{SaveDraft, Finalize}
+use Rattle.device_rules.specs.declared.answer.Query.TheVariants.{Entities}
 use Rattle.collect_text.specs.Lines.{without_return}
 use Rattle.collect_text.specs.Rows.{words_meaning}
 use Rattle.collect_text.specs.Words.{words_of, is_skipped}
 use Rattle.collect_text.specs.declared.line.Line.{Line}
-use Rattle.collect_text.specs.declared.line.Line.TheVariants.{Skipped, Bad, Give}
+use Rattle.collect_text.specs.declared.line.Line.TheVariants.{Skipped, Bad, Look, Give}
 use Rattle.collect_text.specs.declared.line.Shape.{Shape}
-use Rattle.collect_text.specs.declared.line.Shape.TheVariants.{Plain, Saved, Finalized}
+use Rattle.collect_text.specs.declared.line.Shape.TheVariants as shapes
 
 -- a line that spells no words is bad
 abbrev pub told_meaning : Option (List (List ℕ)) → Line
@@ -20,6 +21,7 @@ meaning line = let text = without_return line in if is_skipped text then Skipped
 
 -- how the answer to a line is printed
 abbrev pub line_shape : Line → Shape
-line_shape (Give SaveDraft) = Saved
-line_shape (Give Finalize) = Finalized
-line_shape line = Plain
+line_shape (Give SaveDraft) = shapes.Saved
+line_shape (Give Finalize) = shapes.Finalized
+line_shape (Look (Entities name)) = shapes.List name
+line_shape line = shapes.Plain

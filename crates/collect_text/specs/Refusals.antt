@@ -1,5 +1,7 @@
 -- The line of a refusal: its number and its words.
 use Rattle.std.specs.Prelude.{ℕ, List, ◌++◌, codes}
+use Rattle.finalizer.specs.declared.finals.NotFinal.{NotFinal}
+use Rattle.finalizer.specs.declared.finals.NotFinal.TheVariants as finals
 use Rattle.form_read.specs.declared.refusal.FormRefused.{FormRefused}
 use Rattle.form_read.specs.declared.refusal.FormRefused.TheVariants as forms
 use Rattle.question_rules.specs.declared.answers.AnswerRefused.{AnswerRefused}
@@ -7,7 +9,7 @@ use Rattle.question_rules.specs.declared.answers.AnswerRefused.TheVariants as an
 use Rattle.device_rules.specs.declared.refused.Refused.{Refused}
 use Rattle.device_rules.specs.declared.refused.Refused.TheVariants as refusals
 use Rattle.device_rules.specs.declared.refused.Which.{Which}
-use Rattle.device_rules.specs.declared.refused.Which.TheVariants.{Forms, Instances, Counters}
+use Rattle.device_rules.specs.declared.refused.Which.TheVariants.{Forms, Instances, Lists, Rows, Versions, Counters}
 use Rattle.device_rules.specs.Refused.{refused_number}
 use Rattle.collect_text.specs.Lines.{line_at}
 use Rattle.collect_text.specs.Pieces.{spaced_number, spaced_text, spaced_word, status_word}
@@ -15,6 +17,9 @@ use Rattle.collect_text.specs.Pieces.{spaced_number, spaced_text, spaced_word, s
 abbrev pub limit_word : Which → List ℕ
 limit_word Forms = codes "forms"
 limit_word Instances = codes "instances"
+limit_word Lists = codes "lists"
+limit_word Rows = codes "rows"
+limit_word Versions = codes "versions"
 limit_word Counters = codes "counters"
 
 -- why an answer isn't taken
@@ -27,6 +32,13 @@ answer_word answers.NotAChoice = codes "not-a-choice"
 answer_word answers.TooLong = codes "too-long"
 answer_word (answers.BadChar at) = codes "bad-char"
 answer_word answers.NoMemory = codes "memory"
+
+-- why an instance isn't finalized
+abbrev pub not_final_words : NotFinal → List ℕ
+not_final_words (finals.Required path) = codes "required" ++ spaced_text path
+not_final_words (finals.Constraint path) = codes "constraint" ++ spaced_text path
+not_final_words (finals.TooLong length) = codes "too-long"
+not_final_words finals.NoMemory = codes "memory"
 
 -- the number by which it is printed why bytes are no form
 abbrev pub form_refused_number : FormRefused → ℕ
@@ -56,6 +68,7 @@ refusal_words (refusals.WrongStatus status) = codes "status" ++ spaced_word (sta
 refusal_words (refusals.HasEdit number) = codes "edit" ++ spaced_number number
 refusal_words (refusals.InUse number) = codes "used" ++ spaced_number number
 refusal_words (refusals.Answer why) = codes "answer" ++ spaced_word (answer_word why)
+refusal_words (refusals.NotFinal why) = not_final_words why
 refusal_words (refusals.FormRefused why) = codes "form-refused" ++ spaced_number (form_refused_number why)
 refusal_words (refusals.OtherBytes kept new) = codes "other" ++ spaced_text kept ++ spaced_text new
 refusal_words (refusals.Limit which number) = codes "limit" ++ spaced_word (limit_word which) ++ spaced_number number

@@ -4,7 +4,8 @@ use Rattle.std.specs.Prelude.{ℕ, List, [], ◌∷◌, Bool, true, false, codes
 use Rattle.std.specs.Str.{bytes_eq}
 use lib.Pointwise.{pointwise}
 use Rattle.field_text.specs.declared.mode.Mode.TheVariants.{Manual, Previous, Exact}
-use Rattle.entry_form.specs.declared.command.Command.TheVariants.{AutoSend, Leave, SaveDraft, Tick, UpdateMode}
+use Rattle.entry_form.specs.declared.command.Command.TheVariants.{AutoSend, Finalize, FinalizeAll, Leave}
+use Rattle.entry_form.specs.declared.command.Command.TheVariants.{SaveDraft, Tick, UpdateMode}
 use Rattle.device_rules.specs.declared.answer.Query.TheVariants as queries
 use Rattle.collect_text.specs.Arguments.{with_arguments}
 use Rattle.collect_text.specs.declared.line.Line.{Line}
@@ -31,8 +32,8 @@ rows =
     ∷ (codes "tick" ∷ [], asked.Tick)
     ∷ (codes "save" ∷ [], asked.Save)
     ∷ (codes "leave" ∷ [], asked.Leave)
-    ∷ (codes "finalize" ∷ [], asked.NotBuilt)
-    ∷ (codes "finalizeall" ∷ [], asked.NotBuilt)
+    ∷ (codes "finalize" ∷ [], asked.Finalize)
+    ∷ (codes "finalizeall" ∷ [], asked.FinalizeAll)
     ∷ (codes "send" ∷ [], asked.NotBuilt)
     ∷ (codes "update" ∷ [], asked.NotBuilt)
     ∷ (codes "lists" ∷ [], asked.NotBuilt)
@@ -52,6 +53,8 @@ line_of (asked.UpdateMode mode) = Give (UpdateMode mode)
 line_of asked.Tick = Give Tick
 line_of asked.Save = Give SaveDraft
 line_of asked.Leave = Give Leave
+line_of asked.Finalize = Give Finalize
+line_of asked.FinalizeAll = Give FinalizeAll
 
 abbrev pub same_words : List (List ℕ) → List (List ℕ) → Bool
 same_words = pointwise bytes_eq

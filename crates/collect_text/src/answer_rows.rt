@@ -1,13 +1,15 @@
 // The lines below the first line of an answer.
 ghost use Rattle.std.specs.Prelude.{◌≡◌, ◌++◌, OnOk};
 ghost use Rattle.std.specs.List.{flat_map};
-ghost use Rattle.collect_text.specs.AnswerRows.{answer_rows, entry_rows, field_row, form_row, instance_end};
+ghost use Rattle.collect_text.specs.AnswerRows.{answer_rows, entity_branch, entity_row, entity_start, entry_rows};
+ghost use Rattle.collect_text.specs.AnswerRows.{field_row, form_row, instance_end, online_word, property, spaced_trunk};
 ghost use Rattle.collect_text.specs.AnswerRows.{instance_row, instance_start, shown_end, spaced_id, visible_end};
 
 use crate::pieces::{
     push_spaced_number, push_spaced_text, push_spaced_word, push_word, status_word,
 };
 use device_rules::{Answer, EntryView, FormLine, InstanceLine};
+use entity_lists::{EntityRow, Prop, Version};
 use field_text::{NoMemory, Text};
 use kept_forms::FieldLine;
 use std::alloc::Global;
@@ -132,6 +134,78 @@ fn push_entry_rows(entry: &Option<EntryView>, out: &mut Vec<u8>) -> Result<(), N
     }
 }
 
+fn push_spaced_trunk(
+    alloc: Global,
+    trunk: Option<Version>,
+    out: &mut Vec<u8>,
+) -> Result<(), NoMemory>
+    ensures { OnOk result (out.new.items ≡ out.old.items ++ spaced_trunk trunk) }
+{
+    match trunk {
+        Some(version) => push_spaced_number(alloc, version.number(), out),
+        None => push_word(" -", out),
+    }
+}
+
+fn online_word(is_online: bool) -> &'static str
+    ensures { result.now ≡ online_word is_online }
+{
+    if is_online { " online" } else { " offline" }
+}
+
+#[tactic(auto, unfolding(crate::specs::AnswerRows::entity_start))]
+fn push_entity_start(alloc: Global, row: &EntityRow, out: &mut Vec<u8>) -> Result<(), NoMemory>
+    ensures { OnOk result (out.new.items ≡ out.old.items ++ entity_start row.now) }
+{
+    push_word("entity", out)?;
+    push_spaced_text(&row.id, out)?;
+    push_spaced_text(&row.label, out)?;
+    push_spaced_number(alloc, row.version.number(), out)
+}
+
+#[tactic(auto, unfolding(crate::specs::AnswerRows::entity_branch))]
+fn push_entity_branch(alloc: Global, row: &EntityRow, out: &mut Vec<u8>) -> Result<(), NoMemory>
+    ensures { OnOk result (out.new.items ≡ out.old.items ++ entity_branch row.now) }
+{
+    push_spaced_trunk(alloc, row.trunk, out)?;
+    push_spaced_text(&row.branch, out)?;
+    push_word(online_word(row.online), out)
+}
+
+fn push_property(prop: &Prop, out: &mut Vec<u8>) -> Result<(), NoMemory>
+    ensures { OnOk result (out.new.items ≡ out.old.items ++ property prop.now) }
+{
+    push_spaced_text(&prop.name, out)?;
+    push_spaced_text(&prop.value, out)
+}
+
+fn push_properties(props: &[Prop], out: &mut Vec<u8>) -> Result<(), NoMemory>
+    ensures { OnOk result (out.new.items ≡ out.old.items ++ flat_map property props.now) }
+{
+    for prop in props {
+        push_property(prop, out)?;
+    }
+    Ok(())
+}
+
+fn push_entity_row(alloc: Global, row: &EntityRow, out: &mut Vec<u8>) -> Result<(), NoMemory>
+    ensures { OnOk result (out.new.items ≡ out.old.items ++ entity_row row.now) }
+{
+    push_entity_start(alloc, row, out)?;
+    push_entity_branch(alloc, row, out)?;
+    push_properties(row.props.as_slice(), out)?;
+    push_word("\n", out)
+}
+
+fn push_entity_rows(alloc: Global, rows: &[EntityRow], out: &mut Vec<u8>) -> Result<(), NoMemory>
+    ensures { OnOk result (out.new.items ≡ out.old.items ++ flat_map entity_row rows.now) }
+{
+    for row in rows {
+        push_entity_row(alloc, row, out)?;
+    }
+    Ok(())
+}
+
 pub(crate) fn push_answer_rows(
     alloc: Global,
     answer: &Answer,
@@ -140,7 +214,13 @@ pub(crate) fn push_answer_rows(
     ensures { OnOk result (out.new.items ≡ out.old.items ++ answer_rows answer.now) }
 {
     match answer {
-        Answer::Done | Answer::Number(_) | Answer::Settings(_) => Ok(()),
+        Answer::Done
+        | Answer::Number(_)
+        | Answer::Bulk(_)
+        | Answer::Settings(_)
+        | Answer::Doc(_)
+        | Answer::Counts(_) => Ok(()),
+        Answer::Entities(rows) => push_entity_rows(alloc, rows.as_slice(), out),
         Answer::Forms(forms) => push_form_rows(forms.as_slice(), out),
         Answer::Instances(instances) => push_instance_rows(alloc, instances.as_slice(), out),
         Answer::EntryNow(entry) => push_entry_rows(entry, out),

@@ -2,9 +2,10 @@
 ghost use Rattle.std.specs.Prelude.{◌≡◌, IfOk};
 ghost use Rattle.collect_text.specs.Arguments.{answer_line, asked_with, drop_form_line, drop_line, edit_line};
 ghost use Rattle.collect_text.specs.Arguments.{get_line, how_named, how_of, load_line, number_of, open_line};
-ghost use Rattle.collect_text.specs.Arguments.{show_line, shown, start_line, start_of, started, with_arguments};
+ghost use Rattle.collect_text.specs.Arguments.{show_line, shown, shown_doc, start_line, start_of, started, with_arguments};
 
 use crate::Line;
+use device_rules::Query;
 use entry_form::{Base, Command, How};
 use field_text::{Blob, NoMemory, Text, read_decimal};
 use std::alloc::Global;
@@ -155,27 +156,33 @@ fn get_line(words: &[Text]) -> Line
     }
 }
 
-fn shown(what: &Text, name: &Text) -> Line
-    ensures { result ≡ shown what.now name.now }
+fn shown_doc(number: &Text) -> Line
+    ensures { result ≡ shown_doc (number_of number.now) }
 {
-    if what.as_str() == "doc" {
-        match number_of(name) {
-            Some(_) => Line::NotBuilt,
-            None => Line::Bad,
-        }
-    } else if what.as_str() == "list" {
-        Line::NotBuilt
-    } else {
-        Line::Bad
+    match number_of(number) {
+        Some(number) => Line::Look(Query::DocOf(number)),
+        None => Line::Bad,
     }
 }
 
-fn show_line(words: &[Text]) -> Line
-    ensures { result ≡ show_line words.now }
+fn shown(alloc: Global, what: &Text, name: &Text) -> Result<Line, NoMemory>
+    ensures { IfOk result (λ line. line ≡ shown what.now name.now) }
+{
+    if what.as_str() == "doc" {
+        Ok(shown_doc(name))
+    } else if what.as_str() == "list" {
+        Ok(Line::Look(Query::Entities(name.copy(alloc)?)))
+    } else {
+        Ok(Line::Bad)
+    }
+}
+
+fn show_line(alloc: Global, words: &[Text]) -> Result<Line, NoMemory>
+    ensures { IfOk result (λ line. line ≡ show_line words.now) }
 {
     match words {
-        [what, name] => shown(what, name),
-        _ => Line::Bad,
+        [what, name] => shown(alloc, what, name),
+        _ => Ok(Line::Bad),
     }
 }
 
@@ -201,7 +208,7 @@ fn asked_with(alloc: Global, verb: &Text, words: &[Text]) -> Result<Line, NoMemo
     } else if verb == "get" {
         Ok(get_line(words))
     } else if verb == "show" {
-        Ok(show_line(words))
+        show_line(alloc, words)
     } else {
         Ok(Line::Bad)
     }

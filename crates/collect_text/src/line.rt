@@ -35,12 +35,13 @@ pub enum Shape {
 
 impl Line {
     /// How the line's answer is printed.
-    pub fn shape(&self) -> Result<Shape, NoMemory>
+    pub fn shape(&self, alloc: Global) -> Result<Shape, NoMemory>
         ensures { IfOk result (λ shape. shape ≡ line_shape self.now) }
     {
         Ok(match self {
             Line::Give(Command::SaveDraft) => Shape::Saved,
             Line::Give(Command::Finalize) => Shape::Finalized,
+            Line::Look(Query::Entities(name)) => Shape::List(name.copy(alloc)?),
             _ => Shape::Plain,
         })
     }

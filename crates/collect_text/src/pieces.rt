@@ -4,6 +4,7 @@ ghost use Rattle.collect_text.specs.Lines.{line_at};
 ghost use Rattle.collect_text.specs.Pieces.{spaced_number, spaced_text, spaced_word, status_word};
 
 use crate::print_text;
+use crate::printed::print_bytes;
 use field_text::{NoMemory, Text, decimal_text};
 use instance_store::Status;
 use std::alloc::Global;
@@ -38,6 +39,13 @@ pub(crate) fn push_spaced_text(text: &Text, out: &mut Vec<u8>) -> Result<(), NoM
 {
     out.push(b' ')?;
     print_text(text, out)
+}
+
+pub(crate) fn push_spaced_bytes(text: &[u8], out: &mut Vec<u8>) -> Result<(), NoMemory>
+    ensures { OnOk result (out.new.items ≡ out.old.items ++ spaced_text text.now) }
+{
+    out.push(b' ')?;
+    print_bytes(text, out)
 }
 
 // A word, and a number behind it.

@@ -1,14 +1,19 @@
 // The lines that answer the lines of a script.
-ghost use Rattle.std.specs.Prelude.{◌≡◌, ◌++◌, IfOk, OnOk, OnErr};
-ghost use Rattle.collect_text.specs.Answers.{answer_text, entry_head, number_text, printed_answer, printed_word};
+ghost use Rattle.std.specs.Prelude.{◌≡◌, ◌++◌, codes, IfOk, OnOk, OnErr};
+ghost use Rattle.collect_text.specs.Answers.{answer_text, bulk_text, counts_text, entry_head, kept_counts, list_head};
+ghost use Rattle.collect_text.specs.Answers.{number_text, printed_answer, printed_word, queue_counts};
+ghost use Rattle.collect_text.specs.Pieces.{spaced_text};
 ghost use Rattle.collect_text.specs.Answers.{IsWord};
 
 use crate::answer_rows::push_answer_rows;
-use crate::pieces::{line_at, push_numbered, push_spaced_number, push_spaced_text, push_word};
+use crate::pieces::{
+    line_at, push_numbered, push_spaced_bytes, push_spaced_number, push_spaced_text,
+    push_spaced_word, push_word,
+};
 use crate::settings::settings_text;
 use crate::{Line, Shape};
-use device_rules::{Answer, EntryView};
-use field_text::NoMemory;
+use device_rules::{Answer, Counts, EntryView, Finalized};
+use field_text::{Blob, NoMemory};
 use std::alloc::Global;
 
 fn push_number_text(
@@ -42,6 +47,67 @@ fn push_entry_head(
     push_spaced_number(alloc, entry.fields.len() as u64, out)
 }
 
+#[tactic(auto, unfolding(crate::specs::Answers::bulk_text))]
+fn push_bulk_text(alloc: Global, counts: &Finalized, out: &mut Vec<u8>) -> Result<(), NoMemory>
+    ensures { OnOk result (out.new.items ≡ out.old.items ++ bulk_text counts.now) }
+{
+    push_numbered(alloc, "finalized", counts.finalized, out)?;
+    push_spaced_word("invalid", out)?;
+    push_spaced_number(alloc, counts.invalid, out)?;
+    push_spaced_word("skipped", out)?;
+    push_spaced_number(alloc, counts.skipped, out)
+}
+
+fn push_list_head(
+    alloc: Global,
+    shape: &Shape,
+    count: u64,
+    out: &mut Vec<u8>,
+) -> Result<(), NoMemory>
+    ensures { OnOk result (out.new.items ≡ out.old.items ++ list_head shape.now count) }
+{
+    push_word("list", out)?;
+    if let Shape::List(name) = shape {
+        push_spaced_text(name, out)?;
+    }
+    push_spaced_number(alloc, count, out)
+}
+
+#[tactic(auto, unfolding(crate::specs::Answers::kept_counts))]
+fn push_kept_counts(alloc: Global, counts: &Counts, out: &mut Vec<u8>) -> Result<(), NoMemory>
+    ensures { OnOk result (out.new.items ≡ out.old.items ++ kept_counts counts.now) }
+{
+    push_numbered(alloc, "counts forms", counts.forms, out)?;
+    push_spaced_word("instances", out)?;
+    push_spaced_number(alloc, counts.instances, out)
+}
+
+#[tactic(auto, unfolding(crate::specs::Answers::queue_counts))]
+fn push_queue_counts(alloc: Global, counts: &Counts, out: &mut Vec<u8>) -> Result<(), NoMemory>
+    ensures { OnOk result (out.new.items ≡ out.old.items ++ queue_counts counts.now) }
+{
+    push_spaced_word("queued", out)?;
+    push_spaced_number(alloc, counts.queued, out)?;
+    push_spaced_word("sent", out)?;
+    push_spaced_number(alloc, counts.sent, out)
+}
+
+fn push_counts_text(alloc: Global, counts: &Counts, out: &mut Vec<u8>) -> Result<(), NoMemory>
+    ensures { OnOk result (out.new.items ≡ out.old.items ++ counts_text counts.now) }
+{
+    push_kept_counts(alloc, counts, out)?;
+    push_queue_counts(alloc, counts, out)?;
+    push_spaced_word("lists", out)?;
+    push_spaced_number(alloc, counts.lists, out)
+}
+
+fn push_doc_text(doc: &Blob, out: &mut Vec<u8>) -> Result<(), NoMemory>
+    ensures { OnOk result (out.new.items ≡ out.old.items ++ (codes "doc" ++ spaced_text doc.now)) }
+{
+    push_word("doc", out)?;
+    push_spaced_bytes(doc.bytes(), out)
+}
+
 fn push_answer_text(
     alloc: Global,
     shape: &Shape,
@@ -65,6 +131,10 @@ fn push_answer_text(
             out,
         ),
         Answer::EntryNow(entry) => push_entry_head(alloc, entry, out),
+        Answer::Bulk(counts) => push_bulk_text(alloc, counts, out),
+        Answer::Doc(doc) => push_doc_text(doc, out),
+        Answer::Entities(rows) => push_list_head(alloc, shape, rows.len() as u64, out),
+        Answer::Counts(counts) => push_counts_text(alloc, counts, out),
     }
 }
 

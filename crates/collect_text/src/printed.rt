@@ -68,22 +68,30 @@ fn is_bare_word(text: &[u8]) -> bool
     !text.is_empty() && all_bare(text)
 }
 
+// Appends the bytes of a text as they are printed; what was there before stays.
+pub(crate) fn print_bytes(text: &[u8], out: &mut Vec<u8>) -> Result<(), NoMemory>
+    ensures ok { OnOk result (out.new.items ≡ out.old.items ++ printed_text text.now) }
+    ensures err { OnErr result (out.new.items ≡ out.old.items) }
+{
+    if is_bare_word(text) {
+        out.extend_from_slice(text)?;
+        return Ok(());
+    }
+    let len = out.len();
+    let printed = push_quoted(text, out);
+    if printed.is_err() {
+        out.truncate(len);
+    }
+    printed
+}
+
 /// Appends a text as it is printed in a line: bare where it is a bare word, else between quotes.
 /// After want of memory `out` is as it was.
 pub fn print_text(text: &Text, out: &mut Vec<u8>) -> Result<(), NoMemory>
     ensures ok { OnOk result (out.new.items ≡ out.old.items ++ printed_text text.now) }
     ensures err { OnErr result (out.new.items ≡ out.old.items) }
 {
-    if is_bare_word(text.bytes()) {
-        out.extend_from_slice(text.bytes())?;
-        return Ok(());
-    }
-    let len = out.len();
-    let printed = push_quoted(text.bytes(), out);
-    if printed.is_err() {
-        out.truncate(len);
-    }
-    printed
+    print_bytes(text.bytes(), out)
 }
 
 /// Texts without control bytes but the line feed, the carriage return and the tab are read as they were printed.

@@ -1,7 +1,7 @@
 // The line of a refusal.
 ghost use Rattle.std.specs.Prelude.{◌≡◌, ◌≢◌, ◌++◌, IfOk, OnOk, OnErr};
 ghost use Rattle.collect_text.specs.Pieces.{spaced_number, spaced_text, spaced_word};
-ghost use Rattle.collect_text.specs.Refusals.{answer_word, form_refused_number, limit_word, printed_refused};
+ghost use Rattle.collect_text.specs.Refusals.{answer_word, form_refused_number, limit_word, not_final_words, printed_refused};
 ghost use Rattle.collect_text.specs.Refusals.{refusal_words, refused_text};
 
 use crate::pieces::{
@@ -10,6 +10,7 @@ use crate::pieces::{
 };
 use device_rules::{Refused, Which};
 use field_text::{NoMemory, Text};
+use finalizer::NotFinal;
 use form_read::FormRefused;
 use question_rules::AnswerRefused;
 use std::alloc::Global;
@@ -20,6 +21,9 @@ fn limit_word(which: Which) -> &'static str
     match which {
         Which::Forms => "forms",
         Which::Instances => "instances",
+        Which::Lists => "lists",
+        Which::Rows => "rows",
+        Which::Versions => "versions",
         Which::Counters => "counters",
     }
 }
@@ -65,6 +69,24 @@ fn push_two_words(word: &str, next: &str, out: &mut Vec<u8>) -> Result<(), NoMem
     push_spaced_word(next, out)
 }
 
+fn push_pathed(word: &str, path: &Text, out: &mut Vec<u8>) -> Result<(), NoMemory>
+    ensures { OnOk result (out.new.items ≡ out.old.items ++ (word.now ++ spaced_text path.now)) }
+{
+    push_word(word, out)?;
+    push_spaced_text(path, out)
+}
+
+fn push_not_final_words(why: &NotFinal, out: &mut Vec<u8>) -> Result<(), NoMemory>
+    ensures { OnOk result (out.new.items ≡ out.old.items ++ not_final_words why.now) }
+{
+    match why {
+        NotFinal::Required { path } => push_pathed("required", path, out),
+        NotFinal::Constraint { path } => push_pathed("constraint", path, out),
+        NotFinal::TooLong { .. } => push_word("too-long", out),
+        NotFinal::NoMemory => push_word("memory", out),
+    }
+}
+
 fn push_other(kept: &Text, new: &Text, out: &mut Vec<u8>) -> Result<(), NoMemory>
     ensures { OnOk result (out.new.items ≡ out.old.items ++ refusal_words (Refused.OtherBytes kept.now new.now)) }
 {
@@ -96,6 +118,7 @@ fn push_refusal_words(alloc: Global, why: &Refused, out: &mut Vec<u8>) -> Result
         Refused::HasEdit { number } => push_numbered(alloc, "edit", *number, out),
         Refused::InUse { number } => push_numbered(alloc, "used", *number, out),
         Refused::Answer(why) => push_two_words("answer", answer_word(*why), out),
+        Refused::NotFinal(why) => push_not_final_words(why, out),
         Refused::FormRefused(why) => push_numbered(
             alloc,
             "form-refused",

@@ -23,6 +23,8 @@ pub enum Asked {
     Tick,
     Save,
     Leave,
+    Finalize,
+    FinalizeAll,
 }
 
 static ROWS: [(&[&str], Asked); 19] = [
@@ -42,8 +44,8 @@ static ROWS: [(&[&str], Asked); 19] = [
     (&["tick"], Asked::Tick),
     (&["save"], Asked::Save),
     (&["leave"], Asked::Leave),
-    (&["finalize"], Asked::NotBuilt),
-    (&["finalizeall"], Asked::NotBuilt),
+    (&["finalize"], Asked::Finalize),
+    (&["finalizeall"], Asked::FinalizeAll),
     (&["send"], Asked::NotBuilt),
     (&["update"], Asked::NotBuilt),
     (&["lists"], Asked::NotBuilt),
@@ -71,6 +73,8 @@ fn line_of(asked: Asked) -> Line
         Asked::Tick => Line::Give(Command::Tick),
         Asked::Save => Line::Give(Command::SaveDraft),
         Asked::Leave => Line::Give(Command::Leave),
+        Asked::Finalize => Line::Give(Command::Finalize),
+        Asked::FinalizeAll => Line::Give(Command::FinalizeAll),
     }
 }
 

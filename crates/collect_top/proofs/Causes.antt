@@ -20,8 +20,8 @@ use Rattle.collect_script.specs.Ends as ends
 use Rattle.collect_script.specs.Script.{IsPastLimit, IsTooLong, Reads, Spells, by_end, by_feeds, ended}
 use Rattle.collect_top.specs.declared.stop.Stop.TheVariants.{Opening, Script, Usage}
 use Rattle.collect_top.specs.declared.words.Work.{Work}
-use Rattle.collect_top.specs.Log.{LogsEntries}
-use Rattle.collect_top.specs.Log as log
+use Rattle.collect_top.specs.Shown.{Shows}
+use Rattle.collect_top.specs.Shown as show
 use Rattle.collect_top.specs.Outside.{Images, Outside, streams_of}
 use Rattle.collect_top.specs.Parts.{Begins, Continues, Prints, PutsStop, own_opening}
 use Rattle.collect_top.specs.Parts as parts
@@ -123,23 +123,25 @@ module _ (start : State) (entries rest : List Entry) (before after : Streams) wh
     ends_within text last end (ends.unanswered line behind stop reads on cause calm) =
         let w = unanswered_within text last _ stop cause in (λ e. w.0 (cc (e)), λ e. w.1 (cc (e)))
 
--- ---- the log
+-- ---- what a command prints that reads no script
 
-log_source : (entries : List Entry) (before after : Streams) (end : ScriptEnd) → LogsEntries entries before after end → end ≡ Err script.ReadFault → ⊥
-log_source entries before after end (log.logged gained same) is = cc (is)
-log_source entries before after end (log.cut front is_cut gained rose) is = cc (is)
-log_source entries before after end (log.starved gained same) is = cc (is)
+shown_source : (text : List ℕ) (before after : Streams) (end : ScriptEnd) → Shows text before after end
+    → end ≡ Err script.ReadFault → ⊥
+shown_source text before after end (show.shown gained same) is = cc (is)
+shown_source text before after end (show.cut front is_cut gained rose) is = cc (is)
+shown_source text before after end (show.starved gained same) is = cc (is)
 
-log_sink : (entries : List Entry) (before after : Streams) (end : ScriptEnd) → LogsEntries entries before after end → end ≡ Err script.WriteFault → Rose before.sink_faults after.sink_faults
-log_sink entries before after end (log.logged gained same) is = absurd (cc (is))
-log_sink entries before after end (log.cut front is_cut gained rose) is = rose
-log_sink entries before after end (log.starved gained same) is = absurd (cc (is))
+shown_sink : (text : List ℕ) (before after : Streams) (end : ScriptEnd) → Shows text before after end
+    → end ≡ Err script.WriteFault → Rose before.sink_faults after.sink_faults
+shown_sink text before after end (show.shown gained same) is = absurd (cc (is))
+shown_sink text before after end (show.cut front is_cut gained rose) is = rose
+shown_sink text before after end (show.starved gained same) is = absurd (cc (is))
 
-log_within : (entries : List Entry) (before after : Streams) (end : ScriptEnd) → LogsEntries entries before after end
+shown_within : (text : List ℕ) (before after : Streams) (end : ScriptEnd) → Shows text before after end
     → (end ≢ Err script.LineTooLong) × (end ≢ Err script.ScriptTooLong)
-log_within entries before after end (log.logged gained same) = (λ e. cc (e), λ e. cc (e))
-log_within entries before after end (log.cut front is_cut gained rose) = (λ e. cc (e), λ e. cc (e))
-log_within entries before after end (log.starved gained same) = (λ e. cc (e), λ e. cc (e))
+shown_within text before after end (show.shown gained same) = (λ e. cc (e), λ e. cc (e))
+shown_within text before after end (show.cut front is_cut gained rose) = (λ e. cc (e), λ e. cc (e))
+shown_within text before after end (show.starved gained same) = (λ e. cc (e), λ e. cc (e))
 
 -- ---- the whole call
 
@@ -163,7 +165,7 @@ module _ (work : Work) (before between : Streams) (entries rest : List Entry) wh
       no_usage : (e : ScriptEnd) → end_of_script e ≡ Err Usage → ⊥
       no_usage (Ok done) is = cc (is)
       no_usage (Err other) is = cc (is)
-  prints_usage end found (parts.logs n e w long none logs left faults) is = no_use e is
+  prints_usage end found (parts.shows asked text n e w shown long none shows left faults) is = no_use e is
     where
       no_use : (e : ScriptEnd) → end_of_script e ≡ Err Usage → ⊥
       no_use (Ok done) is = cc (is)
@@ -173,13 +175,13 @@ module _ (work : Work) (before between : Streams) (entries rest : List Entry) wh
   prints_source end found (parts.usage none same) is = absurd (cc (is))
   prints_source end found (parts.unopened asked fault w same) is = absurd (cc (is))
   prints_source end found (parts.answers n e w answers full) is = ends_source _ entries rest before between answers.answered answers.text answers.last e answers.ends (script_end e script.ReadFault is)
-  prints_source end found (parts.logs n e w long none logs left faults) is = absurd (log_source entries before between e logs (script_end e script.ReadFault is))
+  prints_source end found (parts.shows asked text n e w shown long none shows left faults) is = absurd (shown_source text before between e shows (script_end e script.ReadFault is))
 
   pub prints_sink : (end : End) (found : Option ℕ) → P end found → end ≡ Err (Script script.WriteFault) → Rose before.sink_faults between.sink_faults
   prints_sink end found (parts.usage none same) is = absurd (cc (is))
   prints_sink end found (parts.unopened asked fault w same) is = absurd (cc (is))
   prints_sink end found (parts.answers n e w answers full) is = ends_sink _ entries rest before between answers.answered answers.text answers.last e answers.ends (script_end e script.WriteFault is)
-  prints_sink end found (parts.logs n e w long none logs left faults) is = log_sink entries before between e logs (script_end e script.WriteFault is)
+  prints_sink end found (parts.shows asked text n e w shown long none shows left faults) is = shown_sink text before between e shows (script_end e script.WriteFault is)
 
   pub prints_within : (end : End) (found : Option ℕ) (whole left : List ℕ) → before.left ≡ Some whole → between.left ≡ Some left → IsWithinLimits whole → P end found
       → (end ≢ Err (Script script.LineTooLong)) × (end ≢ Err (Script script.ScriptTooLong))
@@ -188,8 +190,8 @@ module _ (work : Work) (before between : Streams) (entries rest : List Entry) wh
   prints_within end found whole left was now within (parts.answers n e w answers full) =
       let r = ends_within _ entries rest before between whole left was now within answers.answered answers.text answers.last e answers.ends in
       (λ i. r.0 (script_end e script.LineTooLong i), λ i. r.1 (script_end e script.ScriptTooLong i))
-  prints_within end found whole left was now within (parts.logs n e w long none logs same faults) =
-      let r = log_within entries before between e logs in
+  prints_within end found whole left was now within (parts.shows asked text n e w shown long none shows same faults) =
+      let r = shown_within text before between e shows in
       (λ i. r.0 (script_end e script.LineTooLong i), λ i. r.1 (script_end e script.ScriptTooLong i))
 
   -- where the device was opened, opening found entries
@@ -197,7 +199,7 @@ module _ (work : Work) (before between : Streams) (entries rest : List Entry) wh
   prints_found end found (parts.usage none same) fault is = refl
   prints_found end found (parts.unopened asked other w same) fault is = refl
   prints_found end found (parts.answers n e w answers full) fault is = absurd (no_opening e fault is)
-  prints_found end found (parts.logs n e w long none logs left faults) fault is = absurd (no_opening e fault is)
+  prints_found end found (parts.shows asked text n e w shown long none shows left faults) fault is = absurd (no_opening e fault is)
 
 -- the streams behind the line of a stop
 pub stop_left : (between after : Streams) (end : End) → PutsStop between after end → after.left ≡ between.left
@@ -256,5 +258,5 @@ module _ {D : Type 0} (images : Images D) (content : D → Option (List ℕ)) (f
           (fault_told image fault other told reads calm (run.fault other is))
       by e o is found (parts.answers n s w answers fits) =
           let r = opened_reads run.found image told run.begins n found in absurd (cc (reads_once image (Ok r.0) (Err fault) r.1 reads))
-      by e o is found (parts.logs n s w long none logs left same) =
+      by e o is found (parts.shows asked text n s w shown long none shows left same) =
           let r = opened_reads run.found image told run.begins n found in absurd (cc (reads_once image (Ok r.0) (Err fault) r.1 reads))

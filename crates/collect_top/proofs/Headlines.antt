@@ -88,7 +88,7 @@ module _ {D : Type 0} (images : Images D) (content : D → Option (List ℕ)) (f
   completes image found calm told reads e is o (parts.unopened asked fault w same) = unopened_completes fault image found told reads calm.disk (run.fault fault is)
   completes image found calm told reads e is o (parts.answers n s w answers fits) =
       completes_script s (λ i. calm.source (source_fails (is ∙ i))) (λ i. calm.sink (sink_fails (is ∙ i))) (λ i. calm.disk (run.failed (is ∙ i)))
-  completes image found calm told reads e is o (parts.logs n s w long none logs left same) =
+  completes image found calm told reads e is o (parts.shows asked text n s w shown long none shows left same) =
       completes_script s (λ i. calm.source (source_fails (is ∙ i))) (λ i. calm.sink (sink_fails (is ∙ i))) (λ i. calm.disk (run.failed (is ∙ i)))
 
   causes : EndCauses (Some work) outside_before outside_after end

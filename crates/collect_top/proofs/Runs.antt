@@ -31,12 +31,12 @@ use Rattle.collect_top.specs.declared.stop.Stop.TheVariants.{Opening, Script, Us
 use Rattle.collect_top.specs.declared.words.Work.{Work}
 use Rattle.collect_top.specs.declared.words.Work.TheVariants as works
 use Rattle.collect_top.specs.Crash.{Leaves, LeavesEntries, opened, unopened}
-use Rattle.collect_top.specs.Log.{LogsEntries}
-use Rattle.collect_top.specs.Log as log
 use Rattle.collect_top.specs.Outside.{Images}
-use Rattle.collect_top.specs.Parts.{Begins, Continues, Prints, answers, logs, own_opening}
+use Rattle.collect_top.specs.Parts.{Begins, Continues, Prints, answers, own_opening, shows}
 use Rattle.collect_top.specs.Parts as parts
-use Rattle.collect_top.specs.Run.{AnswersOver, Closed, HasRun, LogsOver}
+use Rattle.collect_top.specs.Run.{AnswersOver, Closed, HasRun, ShowsOver}
+use Rattle.collect_top.specs.Shown.{Shows, shown_text}
+use Rattle.collect_top.specs.Shown as show
 use Rattle.collect_top.specs.Stop.{End, end_of_script}
 
 -- a disk that isn't called
@@ -201,9 +201,10 @@ module _ {D : Type 0} (images : Images D) (content : D → Option (List ℕ)) (f
                 (subst (λ (n : ℕ). Crash images.since images.clock disk over.now.opened n trail.entries rest) over.leads.found over.closed.crash);
           }
 
-  pub has_run_logs : (end : ScriptEnd) → LogsOver images device before after disk trail end → after.left ≡ before.left → after.source_faults ≡ before.source_faults
-      → HasRun images content faults works.Log old_disk disk before after trail (end_of_script end)
-  has_run_logs end over same_left same_faults =
+  pub has_run_shows : (work : Work) (end : ScriptEnd) → ShowsOver images work device before after disk trail end
+      → after.left ≡ before.left → after.source_faults ≡ before.source_faults
+      → HasRun images content faults work old_disk disk before after trail (end_of_script end)
+  has_run_shows work end over same_left same_faults =
       let now_is : entries_of device.entries ≡ entries_of trail.entries = ap entries_of (sym over.closed.entries_are) in
       let none : option_to_list device.rest ≡ [] = ap option_to_list opened_so.ready.none_left in
       record {
@@ -212,8 +213,8 @@ module _ {D : Type 0} (images : Images D) (content : D → Option (List ℕ)) (f
         start = over.closed.start;
         legal = subst (λ r. IsLegal initial (entries_of trail.entries ++ r)) none (subst (λ es. IsLegal initial (es ++ option_to_list device.rest)) now_is over.closed.legal);
         begins = continues (entries_of trail.entries) [] (sym now_is ∙ sym (append-nil (entries_of device.entries))) tt;
-        prints = logs device.found end refl (ap length (sym now_is) ∙ sizes.1) refl
-            (subst (λ es. LogsEntries es before after end) now_is over.logs) same_left same_faults;
+        prints = shows work over.text device.found end refl (ap (shown_text work) (sym now_is) ∙ over.is)
+            (ap length (sym now_is) ∙ sizes.1) refl over.shows same_left same_faults;
         leaves = opened (end_of_script end) device.found (record {
           leaves = subst (λ t. LeavesFrom images.clock images.since old_disk disk t (HasAtLeast (entries_of trail.entries ++ []) device.found)) moment
               (subst (λ (d : D). LeavesFrom images.clock images.since old_disk d device.opened (HasAtLeast (entries_of trail.entries ++ []) device.found)) (sym over.closed.disk_is)
@@ -223,10 +224,10 @@ module _ {D : Type 0} (images : Images D) (content : D → Option (List ℕ)) (f
         });
         rest_is = inl refl;
         fault = λ fault is. absurd (end_unopened end fault is);
-        failed = λ is. absurd (log_failed end (end_failed end is) over.logs);
+        failed = λ is. absurd (shown_failed over.text end (end_failed end is) over.shows);
       }
     where
-      log_failed : (end : ScriptEnd) → end ≡ Err script.DiskFault → LogsEntries (entries_of device.entries) before after end → ⊥
-      log_failed end is (log.logged gained same) = absurd (cc (is))
-      log_failed end is (log.cut front is_cut gained rose) = absurd (cc (is))
-      log_failed end is (log.starved gained same) = absurd (cc (is))
+      shown_failed : (text : List ℕ) (end : ScriptEnd) → end ≡ Err script.DiskFault → Shows text before after end → ⊥
+      shown_failed text end is (show.shown gained same) = absurd (cc (is))
+      shown_failed text end is (show.cut front is_cut gained rose) = absurd (cc (is))
+      shown_failed text end is (show.starved gained same) = absurd (cc (is))

@@ -1,6 +1,7 @@
 pub mod Crash
 pub mod Headline
 pub mod Log
+pub mod Shown
 pub mod Outside
 pub mod Parts
 pub mod Run

@@ -20,8 +20,8 @@ use Rattle.collect_script.specs.Ends.{AnswersScript, ScriptEnd, Streams}
 use Rattle.collect_top.specs.declared.stop.Stop.{Stop}
 use Rattle.collect_top.specs.declared.stop.Stop.TheVariants.{Usage, Opening, Script}
 use Rattle.collect_top.specs.declared.words.Work.{Work}
-use Rattle.collect_top.specs.declared.words.Work.TheVariants.{Run, Log}
-use Rattle.collect_top.specs.Log.{LogsEntries}
+use Rattle.collect_top.specs.declared.words.Work.TheVariants.{Run}
+use Rattle.collect_top.specs.Shown.{Shows, shown_text}
 use Rattle.collect_top.specs.Outside.{Outside, streams_of}
 use Rattle.collect_top.specs.Stop.{End, end_of_script, fault_line}
 
@@ -63,8 +63,9 @@ pub data Prints (work : Option Work) (before between : Streams) (entries rest : 
       → AnswersScript initial entries rest before between (suc found) end
       → ((size : ℕ) → end ≡ Err (script.JournalFull size) → size ≡ end_of (payloads_of entries))
       → Prints work before between entries rest (end_of_script end) (Some found)
-  logs : (found : ℕ) (end : ScriptEnd) → work ≡ Some Log → length entries ≡ suc found → rest ≡ []
-      → LogsEntries entries before between end
+  shows : (asked : Work) (text : List ℕ) (found : ℕ) (end : ScriptEnd) → work ≡ Some asked
+      → shown_text asked entries ≡ Some text → length entries ≡ suc found → rest ≡ []
+      → Shows text before between end
       → between.left ≡ before.left → between.source_faults ≡ before.source_faults
       → Prints work before between entries rest (end_of_script end) (Some found)
 

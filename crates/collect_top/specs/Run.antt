@@ -17,9 +17,8 @@ use Rattle.collect_script.specs.declared.stop.ScriptStop.TheVariants as script
 use Rattle.collect_script.specs.Ends.{AnswersScript, ScriptEnd, Streams}
 use Rattle.collect_top.specs.declared.stop.Stop.TheVariants.{Opening, Script}
 use Rattle.collect_top.specs.declared.words.Work.{Work}
-use Rattle.collect_top.specs.declared.words.Work.TheVariants.{Run, Log}
 use Rattle.collect_top.specs.Crash.{Leaves}
-use Rattle.collect_top.specs.Log.{LogsEntries}
+use Rattle.collect_top.specs.Shown.{Shows, shown_text}
 use Rattle.collect_top.specs.Outside.{Images}
 use Rattle.collect_top.specs.Parts.{Begins, Prints, own_opening}
 use Rattle.collect_top.specs.Stop.{End, end_of_script}
@@ -45,11 +44,13 @@ pub record AnswersOver {D : Type 0} (images : Images D) (faults : D → ℕ) (ol
   pub failed : end ≡ Err script.DiskFault → Rose (faults old.disk) (faults disk)
   pub leads : Leads images.since images.clock faults old now
 
--- the log of a device was put
-pub record LogsOver {D : Type 0} (images : Images D) (old : DeviceView D) (before after : Streams) (disk : D)
-    (trail : Trail) (end : ScriptEnd) : Type 0 where
+-- what the work prints of a device was put
+pub record ShowsOver {D : Type 0} (images : Images D) (work : Work) (old : DeviceView D) (before after : Streams)
+    (disk : D) (trail : Trail) (end : ScriptEnd) : Type 0 where
   pub closed : Closed images old disk trail
-  pub logs : LogsEntries (entries_of old.entries) before after end
+  pub text : List ℕ
+  pub is : shown_text work (entries_of old.entries) ≡ Some text
+  pub shows : Shows text before after end
 
 -- what a call has left before the line of its stop
 pub record HasRun {D : Type 0} (images : Images D) (content : D → Option (List ℕ)) (faults : D → ℕ) (work : Work)

@@ -4,12 +4,13 @@
 mod log;
 mod output;
 mod run;
+mod shown;
 mod stop;
 mod top;
 mod words;
 
-pub use log::put_log;
 pub use output::put_fault;
+pub use shown::{check_text, put_text};
 pub use stop::Stop;
 pub use top::{Done, Hand1, Hands, collect_alone};
 pub use words::{Work, work_of};

@@ -6,10 +6,11 @@ ghost use Rattle.device_core.specs.View.{IsReady};
 ghost use Rattle.collect_script.specs.Ends.{streams};
 ghost use Rattle.collect_top.specs.Outside.{Images};
 ghost use Rattle.collect_top.specs.Parts.{own_opening};
-ghost use Rattle.collect_top.specs.Run.{AnswersOver, Closed, HasRun, LogsOver};
+ghost use Rattle.collect_top.specs.Run.{AnswersOver, Closed, HasRun, ShowsOver};
 ghost use Rattle.collect_top.specs.Stop.{end_of_script};
 
-use crate::{Stop, Work, put_log};
+use crate::log::log_text;
+use crate::{Stop, Work, check_text, put_text};
 use collect_script::{ScriptStop, answer_lines};
 use device_core::{Device, DeviceCaller, OpenFault};
 use device_rules::Trail;
@@ -83,7 +84,7 @@ fn answer_script<D: Disk, So: Source, Si: Sink>(
 
 fn print_log<D: Disk, Si: Sink>(alloc: Global, sink: &mut Si, device: Device<D>) -> Worked<D>
     ensures { (left : Option (List ℕ)) (faults : ℕ)
-        → LogsOver (record { clock = D.clock; may = D.may; since = D.since }) device
+        → ShowsOver (record { clock = D.clock; may = D.may; since = D.since }) Work.Log device
         (streams left (Si.held sink.old) faults (Si.faults sink.old))
         (streams left (Si.held sink.new) faults (Si.faults sink.new))
         result.disk result.trail result.end }
@@ -94,8 +95,19 @@ fn print_log<D: Disk, Si: Sink>(alloc: Global, sink: &mut Si, device: Device<D>)
         trail,
         end: _,
     } = worked;
-    let end = put_log(alloc, trail.entries.as_slice(), sink);
+    let end = put_text(log_text(alloc, trail.entries.as_slice()), sink);
     Worked { disk, trail, end }
+}
+
+fn print_counts<D: Disk, Si: Sink>(alloc: Global, sink: &mut Si, device: Device<D>) -> Worked<D>
+    ensures { (left : Option (List ℕ)) (faults : ℕ)
+        → ShowsOver (record { clock = D.clock; may = D.may; since = D.since }) Work.Check device
+        (streams left (Si.held sink.old) faults (Si.faults sink.old))
+        (streams left (Si.held sink.new) faults (Si.faults sink.new))
+        result.disk result.trail result.end }
+{
+    let end = put_text(check_text(alloc, &device), sink);
+    close(alloc, device, end)
 }
 
 fn end_of(end: Result<(), ScriptStop>) -> Result<(), Stop>
@@ -153,5 +165,6 @@ pub fn run<So: Source, Si: Sink, D: Disk>(
     match work {
         Work::Run => as_ran(answer_script(alloc, source, sink, device)),
         Work::Log => as_ran(print_log(alloc, sink, device)),
+        Work::Check => as_ran(print_counts(alloc, sink, device)),
     }
 }

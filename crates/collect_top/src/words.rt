@@ -11,6 +11,8 @@ pub enum Work {
     Run,
     /// To print a line for each entry of the journal.
     Log,
+    /// To print how much the device keeps.
+    Check,
 }
 
 fn is_word(words: &[Text], wanted: &str) -> bool
@@ -30,6 +32,8 @@ pub fn work_of(words: &[Text]) -> Option<Work>
         Some(Work::Run)
     } else if is_word(words, "log") {
         Some(Work::Log)
+    } else if is_word(words, "check") {
+        Some(Work::Check)
     } else {
         None
     }

@@ -4,7 +4,7 @@ use Rattle.std.specs.Prelude.{◌&&◌, ◌+◌, not, option_map}
 use Rattle.std.specs.List.{AllByRecursion, list_any}
 use Rattle.std.specs.Option.{IfSome}
 use Rattle.std.specs.Str.{bytes_eq}
-use Rattle.device_rules.proofs.Steps.{then_ok}
+use Rattle.field_text.proofs.StepLemmas.{then_ok}
 use Rattle.device_rules.specs.AutoSend.{auto_send}
 use Rattle.device_rules.specs.declared.answer.Answer.{Answer}
 use Rattle.device_rules.specs.declared.refused.Refused.{Refused}
@@ -18,7 +18,7 @@ use Rattle.device_rules.specs.Load.{form_record, load, load_by, put_form, read_f
 use Rattle.device_rules.specs.NotBuilt.{not_built}
 use Rattle.device_rules.specs.Opened.{is_opening, opened}
 use Rattle.device_rules.specs.Refused.{or_form_refused}
-use Rattle.device_rules.specs.SaveDraft.{draft_of, instances_with, name_of, save_draft, saved}
+use Rattle.device_rules.specs.SaveDraft.{draft_of, name_of, save_draft, saved}
 use Rattle.device_rules.specs.Start.{instance_of}
 use Rattle.device_rules.specs.Step.{entered, obeyed}
 use Rattle.device_rules.specs.Tests.{found_or, not_full, open_entry, refused_if}
@@ -28,6 +28,7 @@ use Rattle.device_state.specs.Changes.{with_sheet}
 use Rattle.device_state.specs.declared.entry.OpenEntry.{OpenEntry}
 use Rattle.device_state.specs.declared.state.State.{State}
 use Rattle.device_state.specs.Entries.{key_of}
+use Rattle.entity_lists.specs.EntityTables.{tables_of}
 use Rattle.entry_form.specs.declared.command.Command.{Command}
 use Rattle.entry_form.specs.declared.command.Command.TheVariants as commands
 use Rattle.entry_form.specs.declared.entry.Entry.{Entry}
@@ -42,15 +43,14 @@ use Rattle.form_store.specs.Forms.{check, is_shown}
 use Rattle.instance_store.specs.declared.records.InstanceRec.{InstanceRec}
 use Rattle.kept_forms.specs.KeptForms.{id_of, is_form, kept_form, version_of}
 use Rattle.savepoints.specs.declared.keys.Key.{Key}
-use Rattle.savepoints.specs.declared.keys.KeyBase.{KeyBase}
-use Rattle.savepoints.specs.declared.keys.KeyBase.TheVariants.{Blank, Draft, Edit}
 use Rattle.device_laws.specs.Soundness.{AnyByRecursion, HasInstanceForm, HasOpenForm, HasSavepointForm, IsSound}
+use Rattle.device_laws.proofs.Finals.{all_with, finalize_all_keeps, finalize_keeps, open_kept}
 use Rattle.device_laws.proofs.Following.{Follows, came, follows}
 use Rattle.device_laws.proofs.Forms.{follow_themselves, hiding_follows, put_follows}
 use Rattle.device_laws.proofs.KeptForms.{kept_reads}
 use Rattle.device_laws.proofs.Lists.{any_then}
-use Rattle.device_laws.proofs.Rows.{all_added, all_dropped, all_gone, all_gone_on, all_put, all_replaced}
-use Rattle.device_laws.proofs.Starts.{found_some, start_keeps}
+use Rattle.device_laws.proofs.Rows.{all_dropped, all_gone, all_gone_on, all_put}
+use Rattle.device_laws.proofs.Starts.{start_keeps}
 
 -- ---- settings, ticks and openings
 
@@ -120,12 +120,6 @@ drop_form_keeps state id x is sound =
 
 -- ---- the open questionnaire
 
--- its form is kept
-open_kept : (state : State) (entry : OpenEntry) → open_entry state ≡ Ok entry → IsSound state
-    → HasOpenForm state.forms.items entry
-open_kept state entry is sound =
-    subst (λ o. IfSome o (HasOpenForm state.forms.items)) (found_some state.entry NoEntry entry is) sound.entry
-
 filled_open : (forms : List FormRec) (entry : Option OpenEntry) (sheet : List (List ℕ))
     → IfSome entry (HasOpenForm forms)
     → IfSome (option_map (with_sheet sheet) entry) (HasOpenForm forms)
@@ -140,7 +134,7 @@ fill_keeps : (state : State) (path value : List ℕ) (x : State × Answer) → f
     → Follows state x.0
 fill_keeps state path value x is sound =
     let entry = then_ok (open_entry state) _ x is in
-    let sheet = then_ok (filled entry.0 path value) _ x entry.2 in
+    let sheet = then_ok (filled (tables_of state.lists.items) entry.0 path value) _ x entry.2 in
     came (Follows state) _ _ x (then_ok (not_full state) _ x sheet.2).2
     (follows state _ sound (follow_themselves state.forms.items) sound.instances
     (all_put (λ key. AnyByRecursion (λ r. key_names r key ≡ true) state.forms.items) (key_of entry.0) sheet.0
@@ -154,12 +148,6 @@ leave_keeps state x is sound =
     came (Follows state) _ _ x (then_ok (not_full state) _ x entry.2).2
     (follows state _ sound (follow_themselves state.forms.items) sound.instances
     (all_gone (HasSavepointForm state.forms.items) (key_of entry.0) state.savepoints.items sound.savepoints) tt)
-
-all_with : (P : InstanceRec → Type 0) (base : KeyBase) (item : InstanceRec) (kept : List InstanceRec) → P item
-    → AllByRecursion P kept → AllByRecursion P (instances_with base item kept)
-all_with P Blank item kept holds all = all_added P item kept holds all
-all_with P (Edit number) item kept holds all = all_added P item kept holds all
-all_with P (Draft number) item kept holds all = all_replaced P item kept holds all
 
 save_keeps : (state : State) (x : State × Answer) → save_draft state ≡ Ok x → IsSound state → Follows state x.0
 save_keeps state x is sound =
@@ -200,8 +188,8 @@ obeyed_keeps state (commands.Start base how) x is sound = start_keeps state base
 obeyed_keeps state (commands.Fill path value) x is sound = fill_keeps state path value x is sound
 obeyed_keeps state commands.SaveDraft x is sound = save_keeps state x is sound
 obeyed_keeps state commands.Leave x is sound = leave_keeps state x is sound
-obeyed_keeps state commands.Finalize x is sound = not_built_keeps state x is sound
-obeyed_keeps state commands.FinalizeAll x is sound = not_built_keeps state x is sound
+obeyed_keeps state commands.Finalize x is sound = finalize_keeps state x is sound
+obeyed_keeps state commands.FinalizeAll x is sound = finalize_all_keeps state x is sound
 obeyed_keeps state (commands.DropInstance number) x is sound = drop_instance_keeps state number x is sound
 obeyed_keeps state (commands.SendBegun number at) x is sound = not_built_keeps state x is sound
 obeyed_keeps state (commands.SendEnded number outcome) x is sound = not_built_keeps state x is sound

@@ -7,9 +7,10 @@ use Rattle.std.specs.Option.{IfSome}
 use Rattle.std.specs.Str.{bytes_eq}
 use Rattle.std.proofs.lemmas.Bool.{and_from}
 use Rattle.std.proofs.lemmas.Slice.Eq.{bytes_eq-Decides}
-use Rattle.device_rules.proofs.Steps.{then_ok}
+use Rattle.field_text.proofs.StepLemmas.{then_ok}
 use Rattle.device_rules.specs.declared.answer.Answer.{Answer}
 use Rattle.device_rules.specs.declared.refused.Refused.{Refused}
+use Rattle.device_rules.specs.declared.start.Source.{Source}
 use Rattle.device_rules.specs.declared.refused.Refused.TheVariants.{EntryThere, NoForm, NoInstance, NoVersion}
 use Rattle.device_rules.specs.Start.{base_record, begun, blank_record, counted_record, counts, has_id, instance_of}
 use Rattle.device_rules.specs.Start.{instance_record, key_of_source, not_edited, opened_with, or_no_form, record_at}
@@ -40,7 +41,7 @@ use Rattle.device_laws.proofs.Rows.{all_gone}
 abbrev okay : {A : Type 0} → A → Result A Refused
 okay a = Ok a
 
-same_okay : {A : Type 0} (a b : A) → okay a ≡ okay b → a ≡ b
+pub same_okay : {A : Type 0} (a b : A) → okay a ≡ okay b → a ≡ b
 same_okay a b is = cc is
 
 pub found_some : {A : Type 0} (o : Option A) (why : Refused) (a : A) → found_or o why ≡ Ok a → o ≡ Some a
@@ -122,6 +123,16 @@ form_among : (forms : List FormRec) (kept : FormRec) (entry : OpenEntry) → IsA
 form_among forms kept entry among read bytes =
     let opened = open_form entry kept (one_of IsRead forms kept among read) bytes in
     any_then forms (λ r here. subst (IsOpenForm entry) (sym here) opened) among
+
+-- the form that a questionnaire begins with is kept
+pub source_kept : (state : State) (base : Base) (how : How) (source : Source) (entry : OpenEntry)
+    → source_of state base how ≡ Ok source → AllByRecursion IsRead state.forms.items → source.form ≡ entry.form
+    → HasOpenForm state.forms.items entry
+source_kept state base how source entry is read same =
+    let there = then_ok (base_record state base how) _ source is in
+    let form = then_ok (record_form there.0) _ source there.2 in
+    form_among state.forms.items there.0 entry (base_among state base how there.0 there.1) read
+    (record_bytes there.0 form.0 form.1 ∙ ap (λ (s : Source). s.form) (same_okay _ source form.2) ∙ same)
 
 pub start_keeps : (state : State) (base : Base) (how : How) (x : State × Answer) → start state base how ≡ Ok x
     → IsSound state → Follows state x.0

@@ -1,3 +1,2 @@
-pub mod Steps
 pub mod Payloads
 pub mod Replays

@@ -23,7 +23,7 @@ use Rattle.device_rules.specs.Limits.{most_entries, is_short, is_form_short, is_
 use Rattle.device_rules.specs.Opened.{default_server, is_opening}
 use Rattle.device_rules.specs.Payload.{FitsPayload}
 use Rattle.device_rules.specs.Fill.{fill, filled}
-use Rattle.device_rules.specs.NoTables.{no_tables}
+use Rattle.entity_lists.specs.EntityTables.{tables_of}
 use Rattle.device_rules.specs.Refused.{or_answer_refused}
 use Rattle.device_rules.specs.Step.{commanded, entered, step}
 use Rattle.device_rules.specs.Tests.{Stepped, open_entry, refused_if}
@@ -32,7 +32,7 @@ use Rattle.kept_forms.proofs.KeptLemmas.{filled_short}
 use Rattle.kept_forms.specs.KeptForms.{filled_of}
 use Rattle.question_rules.specs.declared.answers.AnswerRefused.{AnswerRefused}
 use Rattle.question_rules.specs.declared.answers.AnswerRefused.TheVariants.{NoQuestion}
-use Rattle.device_rules.proofs.Steps.{then_ok}
+use Rattle.field_text.proofs.StepLemmas.{then_ok}
 
 -- ---- bytes of parts
 
@@ -152,9 +152,9 @@ taken (Err why) sheet is = absurd (cc is)
 fill_short : (state : State) (path value : List ℕ) (x : State × Answer) → fill state path value ≡ Ok x → length value ≤ 2000
 fill_short state path value x is =
     let opened = then_ok (open_entry state) _ x is in
-    let filled_so = then_ok (filled opened.0 path value) _ x opened.2 in
-    filled_short no_tables opened.0.form opened.0.sheet path value filled_so.0
-    (taken (filled_of no_tables opened.0.form opened.0.sheet path value) filled_so.0 filled_so.1)
+    let filled_so = then_ok (filled (tables_of state.lists.items) opened.0 path value) _ x opened.2 in
+    filled_short (tables_of state.lists.items) opened.0.form opened.0.sheet path value filled_so.0
+    (taken (filled_of (tables_of state.lists.items) opened.0.form opened.0.sheet path value) filled_so.0 filled_so.1)
 
 -- an answer that is taken is short, and no other entry carries one
 answer_short : (state : State) (hand : Hand) (command : Command) (x : State × Answer) → commanded state command ≡ Ok x

@@ -1,5 +1,4 @@
 pub mod Refused
-pub mod NoTables
 pub mod Answers
 pub mod Limits
 pub mod Payload
@@ -14,6 +13,10 @@ pub mod Fill
 pub mod SaveDraft
 pub mod Leave
 pub mod DropInstance
+pub mod Acting
+pub mod Finalize
+pub mod FinalizeAll
+pub mod Batches
 pub mod Tick
 pub mod NotBuilt
 pub mod Step

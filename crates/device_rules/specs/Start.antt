@@ -11,7 +11,9 @@ use Rattle.entry_form.specs.declared.command.Base.{Base}
 use Rattle.entry_form.specs.declared.command.Base.TheVariants as bases
 use Rattle.entry_form.specs.declared.command.How.{How}
 use Rattle.entry_form.specs.declared.command.How.TheVariants.{Fresh, Recover, Discard}
+use Rattle.entity_lists.specs.EntityTables.{tables_of}
 use Rattle.field_text.specs.Steps.{◌>>=◌}
+use Rattle.field_text.specs.Tables.{NamedTable}
 use Rattle.form_read.specs.declared.refusal.FormRefused.{FormRefused as FormFault}
 use Rattle.form_read.specs.declared.refusal.FormRefused.TheVariants as faults
 use Rattle.form_store.specs.Forms.{exact, latest}
@@ -32,7 +34,6 @@ use Rattle.device_rules.specs.declared.refused.Refused.TheVariants.{NoForm, NoVe
 use Rattle.device_rules.specs.declared.refused.Refused.TheVariants.{SavepointThere, NoSavepoint, WrongStatus, HasEdit}
 use Rattle.device_rules.specs.declared.refused.Refused.TheVariants.{NoMemory}
 use Rattle.device_rules.specs.declared.start.Source.{Source}
-use Rattle.device_rules.specs.NoTables.{no_tables}
 use Rattle.device_rules.specs.Tests.{Stepped, Tested, found_or, not_full, refused_if}
 
 -- ---- the form
@@ -156,13 +157,14 @@ not_edited state (keys.Edit number) = refused_by_edit (edit_of state.instances.i
 
 -- ---- the sheet
 
-abbrev pub sheet_from : List ℕ → Option InstanceRec → List (List ℕ)
-sheet_from form None = initial_of no_tables form
-sheet_from form (Some instance) = settled_of no_tables form instance.sheet
+abbrev pub sheet_from : List NamedTable → List ℕ → Option InstanceRec → List (List ℕ)
+sheet_from tables form None = initial_of tables form
+sheet_from tables form (Some instance) = settled_of tables form instance.sheet
 
 -- the sheet that a questionnaire begins with: the form's first values or the instance's, settled
 abbrev pub fresh_sheet : State → Source → List (List ℕ)
-fresh_sheet state source = sheet_from source.form (base_instance state source.base)
+fresh_sheet state source =
+    sheet_from (tables_of state.lists.items) source.form (base_instance state source.base)
 
 -- the sheet of the savepoint where it is gone on with, else a fresh one
 abbrev pub sheet_of : State → How → Source → List (List ℕ)

@@ -15,6 +15,8 @@ use Rattle.device_rules.specs.AutoSend.{auto_send}
 use Rattle.device_rules.specs.DropForm.{drop_form}
 use Rattle.device_rules.specs.DropInstance.{drop_instance}
 use Rattle.device_rules.specs.Fill.{fill}
+use Rattle.device_rules.specs.Finalize.{finalize}
+use Rattle.device_rules.specs.FinalizeAll.{finalize_all}
 use Rattle.device_rules.specs.Leave.{leave}
 use Rattle.device_rules.specs.Limits.{is_within_limits}
 use Rattle.device_rules.specs.Load.{load}
@@ -36,6 +38,8 @@ obeyed state (commands.DropForm id) = drop_form state id
 obeyed state (commands.Start base how) = start state base how
 obeyed state (commands.Fill path value) = fill state path value
 obeyed state commands.SaveDraft = save_draft state
+obeyed state commands.Finalize = finalize state
+obeyed state commands.FinalizeAll = finalize_all state
 obeyed state commands.Leave = leave state
 obeyed state (commands.DropInstance number) = drop_instance state number
 obeyed state commands.Tick = tick state

@@ -1,5 +1,6 @@
 use device_state::Settings;
-use field_text::{Items, Text};
+use entity_lists::EntityRow;
+use field_text::{Blob, Items, Text};
 use instance_store::Status;
 use kept_forms::FieldLine;
 
@@ -32,14 +33,40 @@ pub struct EntryView {
     pub fields: Items<FieldLine>,
 }
 
+/// What finalizing all drafts came to.
+#[derive(Clone, Copy, Debug, PartialEq, Eq)]
+pub struct Finalized {
+    pub finalized: u64,
+    /// How many couldn't be finalized.
+    pub invalid: u64,
+    /// How many were left, since they are being filled in or have a savepoint.
+    pub skipped: u64,
+}
+
+/// How much a device keeps.
+#[derive(Clone, Copy, Debug, PartialEq, Eq)]
+pub struct Counts {
+    pub forms: u64,
+    pub instances: u64,
+    /// The finalized instances that weren't taken by a server yet.
+    pub queued: u64,
+    pub sent: u64,
+    pub lists: u64,
+}
+
 /// What is asked of a device, which changes nothing.
-#[derive(Debug, PartialEq, Eq, Drop)]
+#[derive(Debug, Drop)]
 pub enum Query {
     Settings,
     /// All forms that are kept, hidden ones too.
     Forms,
     Instances,
     EntryNow,
+    /// The document of the instance with this number.
+    DocOf(u64),
+    /// The entities of the list of this name; of a list that isn't there none.
+    Entities(Text),
+    Counts,
 }
 
 /// What a device answers to a command or a query.
@@ -48,8 +75,12 @@ pub enum Answer {
     Done,
     /// The number of the instance.
     Number(u64),
+    Bulk(Finalized),
     Settings(Settings),
     Forms(Items<FormLine>),
     Instances(Items<InstanceLine>),
     EntryNow(Option<EntryView>),
+    Doc(Blob),
+    Entities(Items<EntityRow>),
+    Counts(Counts),
 }

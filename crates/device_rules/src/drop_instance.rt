@@ -12,7 +12,7 @@ use device_state::{Changes, InstanceChange, OpenEntry, SavepointChange, State};
 use savepoints::KeyBase;
 
 // Whether the open questionnaire stands on the instance with this number.
-fn stands_on(entry: &Option<OpenEntry>, number: u64) -> bool
+pub(crate) fn stands_on(entry: &Option<OpenEntry>, number: u64) -> bool
     ensures { result ≡ stands_on number entry.now }
 {
     let Some(entry) = entry else {

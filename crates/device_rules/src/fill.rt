@@ -2,28 +2,36 @@
 ghost use Rattle.std.specs.Prelude.{◌≡◌};
 ghost use Rattle.field_text.specs.Steps.{Gives};
 ghost use Rattle.device_state.specs.State.{plain};
+ghost use Rattle.entity_lists.specs.EntityTables.{tables_of};
 ghost use Rattle.device_rules.specs.Fill.{fill, filled};
 ghost use Rattle.device_rules.specs.Prepared.{Makes};
 ghost use Rattle.device_rules.specs.Refused.{rule_of};
 
 use crate::answer::Answer;
-use crate::no_tables::NoTables;
 use crate::prepared::{Parts, not_full};
 use crate::refused::Refused;
 use device_state::{Changes, EntryChange, OpenEntry, SavepointChange, State};
+use entity_lists::EntityLists;
 use field_text::Text;
 use question_rules::Sheet;
 use savepoints::Savepoint;
 use std::alloc::Global;
 
 // The sheet of the open questionnaire behind an answer.
-fn filled(alloc: Global, entry: &OpenEntry, path: &Text, value: &Text) -> Result<Sheet, Refused>
-    ensures { Gives rule_of (λ sheet. sheet) result (filled entry.now path.now value.now) }
+fn filled(
+    alloc: Global,
+    lists: &EntityLists,
+    entry: &OpenEntry,
+    path: &Text,
+    value: &Text,
+) -> Result<Sheet, Refused>
+    ensures { Gives rule_of (λ sheet. sheet) result
+        (filled (tables_of lists.now.items) entry.now path.now value.now) }
 {
     Ok(
         entry
             .form
-            .filled_sheet(alloc, &NoTables, &entry.sheet, path, value)?,
+            .filled_sheet(alloc, lists, &entry.sheet, path, value)?,
     )
 }
 
@@ -38,7 +46,7 @@ pub(crate) fn fill(
     let Some(entry) = &state.entry else {
         return Err(Refused::NoEntry);
     };
-    let sheet = filled(alloc, entry, path, value)?;
+    let sheet = filled(alloc, &state.lists, entry, path, value)?;
     not_full(state)?;
     let savepoint = Savepoint {
         key: entry.key(alloc)?,

@@ -2,18 +2,20 @@
 //! hand may rely on that gives commands.
 #![tactic(auto)]
 
+mod acting;
 mod answer;
 mod auto_send;
 mod caller;
 mod drop_form;
 mod drop_instance;
 mod fill;
+mod finalize;
+mod finalize_all;
 mod gate;
 mod laws;
 mod leave;
 mod limits;
 mod load;
-mod no_tables;
 mod not_built;
 mod opened;
 mod prepared;
@@ -27,14 +29,19 @@ mod told;
 mod trail;
 mod update_mode;
 
-pub use answer::{Answer, EntryView, FormLine, InstanceLine, Query};
+pub use acting::Acted;
+pub use answer::{Answer, Counts, EntryView, Finalized, FormLine, InstanceLine, Query};
 pub use caller::Caller;
+pub use finalize::Finished;
+pub use finalize_all::Tried;
 pub use gate::{Gate, Place};
 pub use laws::entries_within_limits_fit_a_payload;
 pub use opened::is_opening;
 pub use prepared::Prepared;
 pub use queries::ask;
 pub use refused::{Refused, Which};
+pub use save_draft::Named;
+pub use start::Source;
 pub use step::{apply, begin, decide};
 pub use told::{SubmitFault, Told};
 pub use trail::{Marked, Trail};

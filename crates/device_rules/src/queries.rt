@@ -1,18 +1,24 @@
 // What a query is answered.
-ghost use Rattle.std.specs.Prelude.{◌≡◌, IfOk, map, option_map};
+ghost use Rattle.std.specs.Prelude.{◌≡◌, IfOk, length, map, option_map};
+ghost use Rattle.std.specs.List.{filter};
 ghost use Rattle.field_text.specs.Steps.{Gives};
 ghost use Rattle.device_state.specs.State.{plain};
-ghost use Rattle.device_rules.specs.Answers.{answer_to, entry_view, form_line, instance_line};
+ghost use Rattle.entity_lists.specs.EntityTables.{tables_of};
+ghost use Rattle.device_rules.specs.Acting.{list_named};
+ghost use Rattle.device_rules.specs.Answers.{answer_to, counts_of, doc_of, entry_view, form_line, instance_line};
+ghost use Rattle.device_rules.specs.Answers.{is_queued, is_sent, rows_of};
 ghost use Rattle.device_rules.specs.Refused.{rule_of};
 
-use crate::answer::{Answer, EntryView, FormLine, InstanceLine, Query};
-use crate::no_tables::NoTables;
+use crate::acting::list_named;
+use crate::answer::{Answer, Counts, EntryView, FormLine, InstanceLine, Query};
 use crate::refused::Refused;
+use crate::start::instance_of;
 use device_state::{OpenEntry, State};
+use entity_lists::{EntityLists, EntityRow};
 use entry_form::Hand;
 use field_text::{Items, NoMemory, Text};
 use form_store::FormRec;
-use instance_store::InstanceRec;
+use instance_store::{InstanceRec, Status};
 use std::alloc::Global;
 
 fn form_line(alloc: Global, kept: &FormRec) -> Result<FormLine, NoMemory>
@@ -67,22 +73,95 @@ fn instance_lines(alloc: Global, instances: &[InstanceRec]) -> Result<Items<Inst
     Ok(Items::from_vec(lines))
 }
 
-fn entry_view(alloc: Global, entry: &OpenEntry) -> Result<EntryView, NoMemory>
-    ensures { IfOk result (λ view. view ≡ entry_view entry.now) }
+fn entry_view(alloc: Global, lists: &EntityLists, entry: &OpenEntry) -> Result<EntryView, NoMemory>
+    ensures { IfOk result (λ view. view ≡ entry_view (tables_of lists.now.items) entry.now) }
 {
     Ok(EntryView {
         id: entry.form.id().copy(alloc)?,
         version: entry.form.version().copy(alloc)?,
-        fields: entry.form.lines(alloc, &NoTables, &entry.sheet)?,
+        fields: entry.form.lines(alloc, lists, &entry.sheet)?,
     })
 }
 
-fn entry_now(alloc: Global, entry: &Option<OpenEntry>) -> Result<Answer, NoMemory>
-    ensures { IfOk result (λ answer. answer ≡ Answer.EntryNow (option_map entry_view entry.now)) }
+fn entry_now(alloc: Global, state: &State) -> Result<Answer, NoMemory>
+    ensures { IfOk result (λ answer. answer ≡ Answer.EntryNow
+        (option_map (entry_view (tables_of state.now.lists.items)) state.now.entry)) }
 {
-    match entry {
-        Some(entry) => Ok(Answer::EntryNow(Some(entry_view(alloc, entry)?))),
+    match &state.entry {
+        Some(entry) => Ok(Answer::EntryNow(Some(entry_view(alloc, &state.lists, entry)?))),
         None => Ok(Answer::EntryNow(None)),
+    }
+}
+
+fn doc_of(alloc: Global, state: &State, number: u64) -> Result<Answer, Refused>
+    ensures { Gives rule_of (λ answer. answer) result (doc_of (plain state.now) number) }
+{
+    let Some(instance) = instance_of(state, number) else {
+        return Err(Refused::NoInstance);
+    };
+    match &instance.doc {
+        Some(doc) => Ok(Answer::Doc(doc.copy(alloc)?)),
+        None => Err(Refused::WrongStatus {
+            status: instance.status,
+        }),
+    }
+}
+
+fn entities_of(alloc: Global, lists: &EntityLists, name: &Text) -> Result<Answer, NoMemory>
+    ensures { IfOk result (λ answer. answer ≡ Answer.Entities (rows_of (list_named lists.now.items name.now))) }
+{
+    match list_named(lists, name) {
+        Some(list) => Ok(Answer::Entities(EntityRow::copy_all(alloc, list.rows.as_slice())?)),
+        None => Ok(Answer::Entities(Items::new(alloc))),
+    }
+}
+
+fn is_queued(instance: &InstanceRec) -> bool
+    ensures { result ≡ is_queued instance.now }
+{
+    match instance.status {
+        Status::Finalized | Status::SendFailed => true,
+        Status::Draft | Status::Invalid | Status::Sent => false,
+    }
+}
+
+fn is_sent(instance: &InstanceRec) -> bool
+    ensures { result ≡ is_sent instance.now }
+{
+    match instance.status {
+        Status::Sent => true,
+        Status::Draft | Status::Invalid | Status::Finalized | Status::SendFailed => false,
+    }
+}
+
+fn queued(instances: &[InstanceRec]) -> u64
+    ensures { result ≡ length (filter is_queued instances.now) }
+{
+    instances
+        .iter()
+        .filter(|instance| is_queued(instance))
+        .count() as u64
+}
+
+fn sent(instances: &[InstanceRec]) -> u64
+    ensures { result ≡ length (filter is_sent instances.now) }
+{
+    instances
+        .iter()
+        .filter(|instance| is_sent(instance))
+        .count() as u64
+}
+
+fn counts_of(state: &State) -> Counts
+    ensures { result ≡ counts_of (plain state.now) }
+{
+    let instances = state.instances.as_slice();
+    Counts {
+        forms: state.forms.count(),
+        instances: instances.len() as u64,
+        queued: queued(instances),
+        sent: sent(instances),
+        lists: state.lists.count(),
     }
 }
 
@@ -97,6 +176,9 @@ pub fn ask(alloc: Global, state: &State, hand: Hand, query: &Query) -> Result<An
             alloc,
             state.instances.as_slice(),
         )?)),
-        Query::EntryNow => Ok(entry_now(alloc, &state.entry)?),
+        Query::EntryNow => Ok(entry_now(alloc, state)?),
+        Query::DocOf(number) => doc_of(alloc, state, *number),
+        Query::Entities(name) => Ok(entities_of(alloc, &state.lists, name)?),
+        Query::Counts => Ok(Answer::Counts(counts_of(state))),
     }
 }

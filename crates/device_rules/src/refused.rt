@@ -1,8 +1,11 @@
-ghost use Rattle.std.specs.Prelude.{◌≡◌};
+ghost use Rattle.std.specs.Prelude.{◌≡◌, is_none};
 ghost use Rattle.device_rules.specs.declared.refused.Refused.TheVariants.{NoMemory};
-ghost use Rattle.device_rules.specs.Refused.{answer_refused, form_refused};
+ghost use Rattle.device_rules.specs.Refused.{action_refused, answer_refused, form_refused, not_final, rule_of};
 
+use entity_lists::{ROW_LIMIT, VERSION_LIMIT};
+use entity_merge::ActionRefused;
 use field_text::Text;
+use finalizer::NotFinal;
 use form_read::FormRefused;
 use instance_store::Status;
 use question_rules::AnswerRefused;
@@ -14,6 +17,12 @@ pub enum Which {
     Forms,
     /// The number of instances that are kept.
     Instances,
+    /// The number of entity lists.
+    Lists,
+    /// The number of entities in a list.
+    Rows,
+    /// The version of an entity.
+    Versions,
     /// The number of entries.
     Counters,
 }
@@ -40,6 +49,7 @@ pub enum Refused {
     /// The open questionnaire stands on the instance with this number.
     InUse { number: u64 },
     Answer(AnswerRefused),
+    NotFinal(NotFinal),
     FormRefused(FormRefused),
     /// A form of the same id and version is kept with other bytes; these are the two hashes.
     OtherBytes { kept: Text, new: Text },
@@ -69,12 +79,21 @@ impl Refused {
             Refused::HasEdit { .. } => 13,
             Refused::InUse { .. } => 14,
             Refused::Answer(_) => 15,
+            Refused::NotFinal(_) => 16,
             Refused::FormRefused(_) => 17,
             Refused::OtherBytes { .. } => 18,
             Refused::Limit { .. } => 19,
             Refused::NoMemory => 23,
             Refused::NotBuilt => 24,
         }
+    }
+}
+
+impl Refused {
+    pub(crate) fn is_no_memory(&self) -> bool
+        ensures { result ≡ is_none (rule_of self.now) }
+    {
+        matches!(self, Refused::NoMemory)
     }
 }
 
@@ -104,6 +123,35 @@ impl From<FormRefused> for Refused {
         match why {
             FormRefused::NoMemory => Refused::NoMemory,
             why => Refused::FormRefused(why),
+        }
+    }
+}
+
+impl From<NotFinal> for Refused {
+    ghost from_gives = { λ why e. e ≡ not_final why };
+
+    fn from(why: NotFinal) -> Refused {
+        match why {
+            NotFinal::NoMemory => Refused::NoMemory,
+            why => Refused::NotFinal(why),
+        }
+    }
+}
+
+impl From<ActionRefused> for Refused {
+    ghost from_gives = { λ why e. e ≡ action_refused why };
+
+    fn from(why: ActionRefused) -> Refused {
+        match why {
+            ActionRefused::TooManyRecords { .. } => Refused::Limit {
+                which: Which::Rows,
+                number: ROW_LIMIT,
+            },
+            ActionRefused::AtEnd { .. } => Refused::Limit {
+                which: Which::Versions,
+                number: VERSION_LIMIT,
+            },
+            ActionRefused::NoMemory => Refused::NoMemory,
         }
     }
 }

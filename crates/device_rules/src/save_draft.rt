@@ -23,14 +23,18 @@ use std::alloc::Global;
 
 /// By what a draft is known, and what it is an edit of.
 #[derive(Debug, Drop)]
-pub(crate) struct Named {
+pub struct Named {
     pub number: u64,
     pub edit_of: Option<u64>,
     pub deprecated: Option<Text>,
 }
 
 // The id of the instance with this number, if it has one.
-fn id_of_instance(alloc: Global, state: &State, number: u64) -> Result<Option<Text>, NoMemory>
+pub(crate) fn id_of_instance(
+    alloc: Global,
+    state: &State,
+    number: u64,
+) -> Result<Option<Text>, NoMemory>
     ensures { IfOk result (λ id. id ≡ id_of_instance (plain state.now) number) }
 {
     match instance_of(state, number) {
@@ -63,7 +67,7 @@ fn new_name(state: &State, edit_of: Option<u64>, deprecated: Option<Text>) -> Re
     })
 }
 
-fn kept_name(alloc: Global, instance: &InstanceRec) -> Result<Named, NoMemory>
+pub(crate) fn kept_name(alloc: Global, instance: &InstanceRec) -> Result<Named, NoMemory>
     ensures { IfOk result (λ name. name ≡ kept_name instance.now) }
 {
     Ok(Named {
@@ -82,7 +86,7 @@ fn old_name(alloc: Global, state: &State, number: u64) -> Result<Named, Refused>
     }
 }
 
-fn name_of(alloc: Global, state: &State, base: KeyBase) -> Result<Named, Refused>
+pub(crate) fn name_of(alloc: Global, state: &State, base: KeyBase) -> Result<Named, Refused>
     ensures name { Gives rule_of (λ name. name) result (name_of (plain state.now) base) }
     ensures room { OnOk result (HasNumber state.now.counters base) }
 {
@@ -96,7 +100,11 @@ fn name_of(alloc: Global, state: &State, base: KeyBase) -> Result<Named, Refused
     }
 }
 
-fn draft_of(alloc: Global, name: Named, entry: &OpenEntry) -> Result<InstanceRec, NoMemory>
+pub(crate) fn draft_of(
+    alloc: Global,
+    name: Named,
+    entry: &OpenEntry,
+) -> Result<InstanceRec, NoMemory>
     ensures { IfOk result (λ draft. draft ≡ draft_of name entry.now) }
 {
     let Named {
@@ -119,7 +127,7 @@ fn draft_of(alloc: Global, name: Named, entry: &OpenEntry) -> Result<InstanceRec
     })
 }
 
-fn instances_change(base: KeyBase, draft: InstanceRec) -> InstanceChange
+pub(crate) fn instances_change(base: KeyBase, draft: InstanceRec) -> InstanceChange
     ensures { (kept : _) → instances_changed result kept ≡ instances_with base draft kept }
 {
     match base {
@@ -128,7 +136,7 @@ fn instances_change(base: KeyBase, draft: InstanceRec) -> InstanceChange
     }
 }
 
-fn counters_after(base: KeyBase, counters: Counters) -> Counters
+pub(crate) fn counters_after(base: KeyBase, counters: Counters) -> Counters
     requires position { counters.position < 2 ^ 62 }
     requires number { HasNumber counters base }
     ensures { result ≡ counters_after base counters }

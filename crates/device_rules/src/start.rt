@@ -19,7 +19,6 @@ ghost use Rattle.device_rules.specs.declared.refused.Refused.TheVariants.{NoForm
 ghost use Rattle.form_store.specs.Forms.{latest};
 
 use crate::answer::Answer;
-use crate::no_tables::NoTables;
 use crate::prepared::{Parts, not_full};
 use crate::refused::Refused;
 use device_state::{Changes, EntryChange, OpenEntry, SavepointChange, State};
@@ -35,7 +34,7 @@ use std::alloc::Global;
 
 /// What a questionnaire begins with, and its form.
 #[derive(Debug, Drop)]
-pub(crate) struct Source {
+pub struct Source {
     pub base: KeyBase,
     pub form: KeptForm,
 }
@@ -183,7 +182,12 @@ fn record_form(alloc: Global, kept: &FormRec) -> Result<KeptForm, Refused>
     }
 }
 
-fn source_of(alloc: Global, state: &State, base: &Base, how: How) -> Result<Source, Refused>
+pub(crate) fn source_of(
+    alloc: Global,
+    state: &State,
+    base: &Base,
+    how: How,
+) -> Result<Source, Refused>
     ensures { Gives rule_of (λ source. source) result (source_of (plain state.now) base.now how) }
 {
     let record = base_record(state, base, how)?;
@@ -205,7 +209,7 @@ fn savepoint_met(state: &State, how: How, key: &Key) -> Result<(), Refused>
     }
 }
 
-fn is_draft(status: Status) -> bool
+pub(crate) fn is_draft(status: Status) -> bool
     ensures { result ≡ is_draft status }
 {
     matches!(status, Status::Draft | Status::Invalid)
@@ -296,8 +300,10 @@ fn fresh_sheet(alloc: Global, state: &State, source: &Source) -> Result<Sheet, N
     ensures { IfOk result (λ sheet. sheet ≡ fresh_sheet (plain state.now) source.now) }
 {
     match base_instance(state, source.base) {
-        Some(instance) => source.form.settled_sheet(alloc, &NoTables, &instance.sheet),
-        None => source.form.initial_sheet(alloc, &NoTables),
+        Some(instance) => source
+            .form
+            .settled_sheet(alloc, &state.lists, &instance.sheet),
+        None => source.form.initial_sheet(alloc, &state.lists),
     }
 }
 

@@ -8,6 +8,8 @@ use crate::auto_send::auto_send;
 use crate::drop_form::drop_form;
 use crate::drop_instance::drop_instance;
 use crate::fill::fill;
+use crate::finalize::finalize;
+use crate::finalize_all::finalize_all;
 use crate::leave::leave;
 use crate::limits::is_within_limits;
 use crate::load::load;
@@ -23,8 +25,8 @@ use device_state::State;
 use entry_form::{Command, Entry, Hand, Opening};
 use std::alloc::Global;
 
-/// The step that opens the device, or the first refusal that applies. With `State::reserve`, which takes the room that the
-/// lists of the state may need, it takes all memory of the step.
+/// The step that opens the device, or the first refusal that applies. With `State::reserve`, which takes the room that
+/// the lists of the state may need, it takes all memory of the step.
 pub fn begin(alloc: Global, state: &State, opening: Opening) -> Result<Prepared, Refused>
     ensures prepared { IfOk result (Prepares (plain state.now) (Entry.Opened opening)) }
     ensures refused { IfErr result (IsRefused (plain state.now) (Entry.Opened opening)) }
@@ -45,6 +47,8 @@ fn obeyed(alloc: Global, state: &State, command: &Command) -> Result<Parts, Refu
         Command::Start { base, how } => start(alloc, state, base, *how),
         Command::Fill { path, value } => fill(alloc, state, path, value),
         Command::SaveDraft => save_draft(alloc, state),
+        Command::Finalize => finalize(alloc, state),
+        Command::FinalizeAll => finalize_all(alloc, state),
         Command::Leave => leave(alloc, state),
         Command::DropInstance(number) => drop_instance(state, *number),
         Command::Tick => tick(state),
@@ -53,8 +57,6 @@ fn obeyed(alloc: Global, state: &State, command: &Command) -> Result<Parts, Refu
         | Command::Ask(_)
         | Command::Fetched { .. }
         | Command::RoundDone
-        | Command::Finalize
-        | Command::FinalizeAll
         | Command::SendBegun { .. }
         | Command::SendEnded { .. } => not_built(state),
     }
@@ -69,8 +71,8 @@ fn commanded(alloc: Global, state: &State, command: &Command) -> Result<Parts, R
     obeyed(alloc, state, command)
 }
 
-/// The step of a hand's command, or the first refusal that applies. With `State::reserve`, which takes the room that the
-/// lists of the state may need, it takes all memory of the step.
+/// The step of a hand's command, or the first refusal that applies. With `State::reserve`, which takes the room that
+/// the lists of the state may need, it takes all memory of the step.
 pub fn decide(
     alloc: Global,
     state: &State,

@@ -1,6 +1,8 @@
 -- What a state becomes by the changes of an entry.
 use Rattle.std.specs.Prelude.{ℕ, List, Option, Some, None, option_map}
 use Rattle.std.specs.Option.{unwrap_or}
+use Rattle.entity_lists.specs.Lists.{put as put_list}
+use Rattle.entity_lists.specs.declared.entity_list.EntityList.{EntityList}
 use Rattle.form_store.specs.Forms.{all_hidden, put}
 use Rattle.form_store.specs.declared.records.FormRec.{FormRec}
 use Rattle.instance_store.specs.declared.records.InstanceRec.{InstanceRec}
@@ -13,12 +15,14 @@ use Rattle.device_state.specs.declared.changes.FormChange.{FormChange}
 use Rattle.device_state.specs.declared.changes.FormChange.TheVariants as forms
 use Rattle.device_state.specs.declared.changes.InstanceChange.{InstanceChange}
 use Rattle.device_state.specs.declared.changes.InstanceChange.TheVariants as instances
+use Rattle.device_state.specs.declared.changes.ListChange.{ListChange}
+use Rattle.device_state.specs.declared.changes.ListChange.TheVariants as lists
 use Rattle.device_state.specs.declared.changes.SavepointChange.{SavepointChange}
 use Rattle.device_state.specs.declared.changes.SavepointChange.TheVariants as savepoints
 use Rattle.device_state.specs.declared.entry.OpenEntry.{OpenEntry}
 use Rattle.device_state.specs.declared.state.Counters.{Counters}
 use Rattle.device_state.specs.declared.state.State.{State}
-use Rattle.device_state.specs.Numbered.{added, dropped, replaced_by}
+use Rattle.device_state.specs.Numbered.{added, dropped, each_replaced, replaced_by}
 use Rattle.device_state.specs.Purging.{purged}
 use Rattle.device_state.specs.State.{bare}
 
@@ -32,12 +36,18 @@ instances_changed instances.Keep kept = kept
 instances_changed (instances.Add item) kept = added item kept
 instances_changed (instances.Replace item) kept = replaced_by item kept
 instances_changed (instances.Remove number) kept = dropped number kept
+instances_changed (instances.Each items) kept = each_replaced items.items kept
 
 abbrev pub savepoints_changed : SavepointChange → List Savepoint → List Savepoint
 savepoints_changed savepoints.Keep kept = kept
 savepoints_changed (savepoints.Put savepoint) kept = put_sheet savepoint.key savepoint.sheet kept
 savepoints_changed (savepoints.Remove key) kept = removed key kept
 savepoints_changed (savepoints.RemoveOn number) kept = removed_on number kept
+
+abbrev pub lists_changed : ListChange → List EntityList → List EntityList
+lists_changed lists.Keep kept = kept
+lists_changed (lists.Put list) kept = put_list list kept
+lists_changed (lists.All all) kept = all.items
 
 abbrev pub with_sheet : List (List ℕ) → OpenEntry → OpenEntry
 with_sheet sheet entry = record entry { sheet = sheet }
@@ -52,11 +62,12 @@ entry_changed (entries.Fill sheet) entry = option_map (with_sheet sheet) entry
 abbrev pub counted : Counters → Changes
 counted counters = record {
   settings = None;
-  station = None;
+  server = None;
   counters = counters;
   forms = forms.Keep;
   instances = instances.Keep;
   savepoints = savepoints.Keep;
+  lists = lists.Keep;
   entry = entries.Keep;
 }
 
@@ -64,11 +75,12 @@ counted counters = record {
 abbrev pub replaced : State → Changes → State
 replaced state changes = record {
   settings = unwrap_or changes.settings state.settings;
-  station = unwrap_or changes.station state.station;
+  server = unwrap_or changes.server state.server;
   counters = changes.counters;
   forms = bare (forms_changed changes.forms state.forms.items);
   instances = bare (instances_changed changes.instances state.instances.items);
   savepoints = bare (savepoints_changed changes.savepoints state.savepoints.items);
+  lists = bare (lists_changed changes.lists state.lists.items);
   entry = entry_changed changes.entry state.entry;
 }
 

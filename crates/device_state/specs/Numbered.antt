@@ -20,6 +20,11 @@ added item kept = if can_add item.number kept then kept ++ item ∷ [] else kept
 abbrev pub replaced_by : InstanceRec → List InstanceRec → List InstanceRec
 replaced_by item kept = option_map_or (λ place. slice_set kept place item) (place_of item.number kept) kept
 
+-- with each of these in the place of the one that has its number
+abbrev pub each_replaced : List InstanceRec → List InstanceRec → List InstanceRec
+each_replaced [] kept = kept
+each_replaced (item ∷ items) kept = each_replaced items (replaced_by item kept)
+
 -- without the one that has this number
 abbrev pub dropped : ℕ → List InstanceRec → List InstanceRec
 dropped number kept = option_map_or (λ place. remove kept place) (place_of number kept) kept

@@ -12,11 +12,17 @@ bare items = record { items = items; spare = 0 }
 abbrev pub initial : State
 initial = record {
   settings = record { mode = Manual; auto_send = false };
-  station = record { device = 1; server = [] };
-  counters = record { position = 0; last_tick = 0; next_instance = 1 };
+  server = [];
+  counters = record {
+    position = 0;
+    last_tick = 0;
+    next_instance = 1;
+    draws = record { device = 1; next = 1 };
+  };
   forms = bare [];
   instances = bare [];
   savepoints = bare [];
+  lists = bare [];
   entry = None;
 }
 
@@ -24,11 +30,12 @@ initial = record {
 abbrev pub plain : State → State
 plain state = record {
   settings = state.settings;
-  station = state.station;
+  server = state.server;
   counters = state.counters;
   forms = bare state.forms.items;
   instances = bare state.instances.items;
   savepoints = bare state.savepoints.items;
+  lists = bare state.lists.items;
   entry = state.entry;
 }
 
@@ -37,6 +44,7 @@ pub record HasRoom (state : State) : Type 0 where
   pub forms : 0 < state.forms.spare
   pub instances : 0 < state.instances.spare
   pub savepoints : 0 < state.savepoints.spare
+  pub lists : 0 < state.lists.spare
 
 -- one entry more
 abbrev pub one_further : Counters → Counters

@@ -2,11 +2,13 @@
 ghost use Rattle.std.specs.Prelude.{◌≡◌, ◌<◌};
 ghost use Rattle.std.specs.List.{list_all};
 ghost use Rattle.std.specs.Option.{unwrap_or};
-ghost use Rattle.device_state.specs.Changes.{counted, entry_changed, forms_changed, instances_changed, savepoints_changed};
-ghost use Rattle.device_state.specs.Numbered.{added, can_add, dropped, is_below, replaced_by};
+ghost use Rattle.device_state.specs.Changes.{counted, entry_changed, forms_changed, instances_changed, lists_changed};
+ghost use Rattle.device_state.specs.Changes.{savepoints_changed};
+ghost use Rattle.device_state.specs.Numbered.{added, can_add, dropped, each_replaced, is_below, replaced_by};
 
 use crate::entry::OpenEntry;
-use crate::state::{Counters, Settings, Station};
+use crate::state::{Counters, Settings};
+use entity_lists::{EntityList, EntityLists};
 use field_text::Text;
 use form_store::{FormRec, FormStore};
 use instance_store::{INSTANCE_LIMIT, InstanceRec, InstanceStore};
@@ -31,6 +33,8 @@ pub enum InstanceChange {
     Replace(InstanceRec),
     /// The one with this number is taken out.
     Remove(u64),
+    /// Each takes the place of the one with its number.
+    Each(Vec<InstanceRec>),
 }
 
 /// What becomes of the savepoints.
@@ -41,6 +45,16 @@ pub enum SavepointChange {
     Remove(Key),
     /// Those of the instance with this number are taken out.
     RemoveOn(u64),
+}
+
+/// What becomes of the entity lists.
+#[derive(Debug, Drop)]
+pub enum ListChange {
+    Keep,
+    /// It takes the place of the one of its name, or stands behind the others.
+    Put(EntityList),
+    /// These take the place of all.
+    All(EntityLists),
 }
 
 /// What becomes of the questionnaire that is being filled in.
@@ -57,11 +71,12 @@ pub enum EntryChange {
 #[derive(Debug, Drop)]
 pub struct Changes {
     pub settings: Option<Settings>,
-    pub station: Option<Station>,
+    pub server: Option<Text>,
     pub counters: Counters,
     pub forms: FormChange,
     pub instances: InstanceChange,
     pub savepoints: SavepointChange,
+    pub lists: ListChange,
     pub entry: EntryChange,
 }
 
@@ -72,11 +87,12 @@ impl Changes {
     {
         Changes {
             settings: None,
-            station: None,
+            server: None,
             counters,
             forms: FormChange::Keep,
             instances: InstanceChange::Keep,
             savepoints: SavepointChange::Keep,
+            lists: ListChange::Keep,
             entry: EntryChange::Keep,
         }
     }
@@ -140,6 +156,14 @@ fn replace(instances: &mut InstanceStore, item: InstanceRec)
     }
 }
 
+fn replace_each(instances: &mut InstanceStore, items: Vec<InstanceRec>)
+    ensures { instances.new.items ≡ each_replaced items.items instances.old.items }
+{
+    for item in items {
+        replace(instances, item);
+    }
+}
+
 fn remove(instances: &mut InstanceStore, number: u64)
     ensures { instances.new.items ≡ dropped number instances.old.items }
 {
@@ -158,6 +182,7 @@ impl InstanceChange {
             InstanceChange::Add(item) => add(instances, item),
             InstanceChange::Replace(item) => replace(instances, item),
             InstanceChange::Remove(number) => remove(instances, number),
+            InstanceChange::Each(items) => replace_each(instances, items),
         }
     }
 }
@@ -177,6 +202,19 @@ impl SavepointChange {
                 let _removed = savepoints.remove(&key);
             }
             SavepointChange::RemoveOn(number) => savepoints.remove_on(number),
+        }
+    }
+}
+
+impl ListChange {
+    pub(crate) fn put_into(self, lists: &mut EntityLists)
+        requires { 0 < lists.old.spare }
+        ensures { lists.new.items ≡ lists_changed self lists.old.items }
+    {
+        match self {
+            ListChange::Keep => {}
+            ListChange::Put(list) => lists.put(list),
+            ListChange::All(all) => *lists = all,
         }
     }
 }

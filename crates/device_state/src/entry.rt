@@ -18,6 +18,9 @@ pub struct OpenEntry {
 }
 
 impl OpenEntry {
+    /// Gives up a questionnaire that isn't filled in.
+    pub fn discard(self) {}
+
     /// The key of the entry's savepoint.
     pub fn key(&self, alloc: Global) -> Result<Key, NoMemory>
         ensures { IfOk result (λ key. key ≡ key_of self.now) }

@@ -6,6 +6,6 @@ mod entry;
 mod forms;
 mod state;
 
-pub use changes::{Changes, EntryChange, FormChange, InstanceChange, SavepointChange};
+pub use changes::{Changes, EntryChange, FormChange, InstanceChange, ListChange, SavepointChange};
 pub use entry::OpenEntry;
-pub use state::{Counters, Settings, State, Station};
+pub use state::{Counters, Settings, State};

@@ -5,6 +5,8 @@ ghost use Rattle.device_state.specs.State.{HasRoom, initial, one_further, one_mo
 use crate::changes::{Changes, put, put_entry};
 use crate::entry::OpenEntry;
 use crate::forms::purge;
+use entity_lists::EntityLists;
+use field_ids::Draws;
 use field_text::{Mode, NoMemory, Text};
 use form_store::FormStore;
 use instance_store::InstanceStore;
@@ -18,15 +20,6 @@ pub struct Settings {
     pub auto_send: bool,
 }
 
-/// What the device was opened with last.
-#[derive(Debug, Drop)]
-pub struct Station {
-    /// The number of the device, below 2^48.
-    pub device: u64,
-    /// The address of the server.
-    pub server: Text,
-}
-
 /// What is counted.
 #[derive(Clone, Copy, Debug, PartialEq, Eq)]
 pub struct Counters {
@@ -36,6 +29,8 @@ pub struct Counters {
     pub last_tick: u64,
     /// The number that the next instance gets.
     pub next_instance: u64,
+    /// The number of the device that was opened last, and of the next id that it draws.
+    pub draws: Draws,
 }
 
 impl Counters {
@@ -80,12 +75,14 @@ impl Counters {
 #[derive(Debug, Drop)]
 pub struct State {
     pub settings: Settings,
-    pub station: Station,
+    /// The address of the server.
+    pub server: Text,
     pub counters: Counters,
     pub forms: FormStore,
     pub instances: InstanceStore,
     /// For each entry that was begun and not ended the sheet that it had last.
     pub savepoints: Savepoints,
+    pub lists: EntityLists,
     /// The questionnaire that is being filled in.
     pub entry: Option<OpenEntry>,
 }
@@ -100,18 +97,17 @@ impl State {
                 mode: Mode::Manual,
                 auto_send: false,
             },
-            station: Station {
-                device: 1,
-                server: Text::from_string(String::new(alloc)),
-            },
+            server: Text::from_string(String::new(alloc)),
             counters: Counters {
                 position: 0,
                 last_tick: 0,
                 next_instance: 1,
+                draws: Draws { device: 1, next: 1 },
             },
             forms: FormStore::make(alloc),
             instances: InstanceStore::make(alloc),
             savepoints: Savepoints::make(alloc),
+            lists: EntityLists::make(alloc),
             entry: None,
         }
     }
@@ -123,7 +119,8 @@ impl State {
     {
         self.forms.reserve()?;
         self.instances.reserve()?;
-        self.savepoints.reserve()
+        self.savepoints.reserve()?;
+        self.lists.reserve()
     }
 
     /// Puts what an entry changes in its place, and lets go of the hidden forms that nothing names any more. It takes
@@ -134,19 +131,21 @@ impl State {
     {
         let Changes {
             settings,
-            station,
+            server,
             counters,
             forms,
             instances,
             savepoints,
+            lists,
             entry,
         } = changes;
         put(&mut self.settings, settings);
-        put(&mut self.station, station);
+        put(&mut self.server, server);
         self.counters = counters;
         forms.put_into(&mut self.forms);
         instances.put_into(&mut self.instances);
         savepoints.put_into(&mut self.savepoints);
+        lists.put_into(&mut self.lists);
         put_entry(&mut self.entry, entry);
         purge(
             &mut self.forms,

@@ -1,6 +1,7 @@
 use device_rules::*;
 use device_state::{Counters, State};
 use entry_form::{Command, Entry, Hand, Opening};
+use field_ids::Draws;
 use field_text::{Mode, NoMemory, Text};
 use std::alloc::Global;
 use std::test::Fail;
@@ -28,7 +29,7 @@ fn steps_are_prepared_and_made(rt: HostRuntime) -> Result<(), Fail> {
     state.reserve()?;
     let (_entry, answer) = apply(&mut state, prepared);
     assert!(rt; matches!(answer, Answer::Done));
-    assert_eq!(rt; state.station.device, 7);
+    assert_eq!(rt; state.counters.draws.device, 7);
     let Ok(prepared) = decide(
         alloc,
         &state,
@@ -66,7 +67,8 @@ fn steps_are_prepared_and_made(rt: HostRuntime) -> Result<(), Fail> {
         Counters {
             position: 2,
             last_tick: 1,
-            next_instance: 1
+            next_instance: 1,
+            draws: Draws { device: 7, next: 1 },
         }
     );
     let Ok(Answer::Settings(settings)) = ask(alloc, &state, Hand::Lister, &Query::Settings) else {

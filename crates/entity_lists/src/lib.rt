@@ -12,4 +12,4 @@ pub use entities::{EntityRow, Prop, ServerRow};
 pub use entity_list::{Entities, EntityList};
 pub use lists::EntityLists;
 pub use server_rows::{CsvRefused, ROW_LIMIT, read_server};
-pub use versions::Version;
+pub use versions::{VERSION_LIMIT, Version};

@@ -4,7 +4,8 @@ ghost use Rattle.entity_lists.specs.Versions.{IsVersion, is_last, version_of};
 use std::marker::Model;
 
 /// The greatest version of an entity.
-const VERSION_LIMIT: u64 = 1_000_000_000_000_000;
+/// The last version of an entity.
+pub const VERSION_LIMIT: u64 = 1_000_000_000_000_000;
 
 /// A version of an entity, from 1 to a greatest one, which contracts see as its number.
 #[derive(Clone, Copy, Debug, PartialEq, Eq)]

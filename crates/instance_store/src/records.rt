@@ -1,5 +1,8 @@
-use field_text::{Blob, Text};
+ghost use Rattle.std.specs.Prelude.{◌≡◌, IfOk};
+
+use field_text::{Blob, NoMemory, Text};
 use question_rules::Sheet;
+use std::alloc::Global;
 
 /// How far an instance has come on its way to the server.
 #[derive(Clone, Copy, Debug, PartialEq, Eq)]
@@ -37,4 +40,42 @@ pub struct InstanceRec {
     pub final_at: u64,
     /// The position of the entry that sent it last, 0 before.
     pub tried: u64,
+}
+
+fn copy_text(alloc: Global, text: &Option<Text>) -> Result<Option<Text>, NoMemory>
+    ensures { IfOk result (λ copy. copy ≡ text.now) }
+{
+    match text {
+        Some(text) => Ok(Some(text.copy(alloc)?)),
+        None => Ok(None),
+    }
+}
+
+fn copy_blob(alloc: Global, blob: &Option<Blob>) -> Result<Option<Blob>, NoMemory>
+    ensures { IfOk result (λ copy. copy ≡ blob.now) }
+{
+    match blob {
+        Some(blob) => Ok(Some(blob.copy(alloc)?)),
+        None => Ok(None),
+    }
+}
+
+impl InstanceRec {
+    pub fn copy(&self, alloc: Global) -> Result<InstanceRec, NoMemory>
+        ensures { IfOk result (λ copy. copy ≡ self.now) }
+    {
+        Ok(InstanceRec {
+            number: self.number,
+            form: self.form.copy(alloc)?,
+            version: self.version.copy(alloc)?,
+            status: self.status,
+            sheet: self.sheet.copy(alloc)?,
+            doc: copy_blob(alloc, &self.doc)?,
+            instance_id: copy_text(alloc, &self.instance_id)?,
+            edit_of: self.edit_of,
+            deprecated: copy_text(alloc, &self.deprecated)?,
+            final_at: self.final_at,
+            tried: self.tried,
+        })
+    }
 }

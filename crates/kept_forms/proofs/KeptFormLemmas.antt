@@ -57,7 +57,7 @@ read_tells bytes (BadEntity path) is = refused_for bytes (BadEntity path) is (λ
 read_tells bytes NoMemory is = tt
 
 -- What doesn't depend on the order is the same of the definition and of the document's own.
-same_of : {A : Type 0} (compute : FormDef → A) (missing : A) (bytes : List ℕ) (form : FormDef) → Describes bytes form
+pub same_of : {A : Type 0} (compute : FormDef → A) (missing : A) (bytes : List ℕ) (form : FormDef) → Describes bytes form
     → ((f : FormDef) → DifferInOrder f form → compute f ≡ compute form)
     → compute form ≡ option_map_or compute (definition_of bytes) missing
 unfolding definition_of
@@ -96,7 +96,7 @@ where_it_fits count sheet true is one other otherwise same = same (sym (eqb-true
 where_it_fits count sheet false is one other otherwise same = refl
 
 -- The choice for two forms with the same fields.
-fits_differs : {A : Type 0} (sheet : List (List ℕ)) (f form : FormDef) → DifferInOrder f form
+pub fits_differs : {A : Type 0} (sheet : List (List ℕ)) (f form : FormDef) → DifferInOrder f form
     → (one other otherwise : A)
     → (length sheet ≡ length f.fields → one ≡ other)
     → (if fits_form f sheet then one else otherwise) ≡ (if fits_form form sheet then other else otherwise)

@@ -1,5 +1,6 @@
 ghost use Rattle.std.specs.Prelude.{◌≡◌, IfOk};
 ghost use Rattle.field_text.specs.Steps.{Gives};
+ghost use Rattle.form_read.specs.Forms.{Describes};
 ghost use Rattle.question_rules.specs.Answered.{fault_of};
 ghost use Rattle.kept_forms.specs.KeptForms.{auto_of, filled_of, id_of, initial_of, kept_form, lines_of, refusal_told};
 ghost use Rattle.kept_forms.specs.KeptForms.{settled_of, version_of};
@@ -49,6 +50,13 @@ impl KeptForm {
         ensures { result.now ≡ self.now }
     {
         &self.document
+    }
+
+    /// The form that was read from the document.
+    pub fn definition(&self) -> &FormDef
+        ensures { Describes self.now result.now }
+    {
+        &self.definition
     }
 
     pub fn into_document(self) -> Blob

@@ -7,3 +7,4 @@ mod sheets;
 
 pub use form::KeptForm;
 pub use lines::FieldLine;
+pub use sheets::fits_form;

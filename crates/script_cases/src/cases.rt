@@ -15,17 +15,32 @@ fn told<T>(answer: Result<T, NoMemory>) -> io::Result<T> {
     }
 }
 
+// The command that a script is given to, and the script: `check` and `log` are named in a first line, and read none.
+fn command_of(short: &str) -> (&str, &str) {
+    if let Some(short) = short.strip_prefix("-- check\n") {
+        ("check", short)
+    } else if let Some(short) = short.strip_prefix("-- log\n") {
+        ("log", short)
+    } else {
+        ("run", short)
+    }
+}
+
+fn printed(rt: &HostRuntime, runs: &mut Runs, short: &str) -> io::Result<String> {
+    let (word, short) = command_of(short);
+    let script = script_of(rt, short)?;
+    told(runs.run(rt.alloc(), word, script.as_slice()))
+}
+
 // Of a script behind `-- in short` the last line is printed.
 fn print_run(rt: &HostRuntime, runs: &mut Runs, short: &str) -> io::Result<()> {
     match short.strip_prefix("-- in short\n") {
         Some(short) => {
-            let script = script_of(rt, short)?;
-            let printed = told(runs.run(rt.alloc(), script.as_slice()))?;
+            let printed = printed(rt, runs, short)?;
             println!(rt; "{}", printed.as_str().lines().last().unwrap_or(""))
         }
         None => {
-            let script = script_of(rt, short)?;
-            let printed = told(runs.run(rt.alloc(), script.as_slice()))?;
+            let printed = printed(rt, runs, short)?;
             print!(rt; "{printed}")
         }
     }

@@ -32,12 +32,12 @@ fn quiet_hands(alloc: Global) -> Hands<MemDialer, FixedClock> {
     }
 }
 
-// The one word of the command.
-fn run_word(alloc: Global) -> Result<Vec<Text>, NoMemory>
-    ensures { IfOk result (λ words. words.items ≡ codes "run" ∷ []) }
+// The one word of a command.
+fn one_word(alloc: Global, word: &str) -> Result<Vec<Text>, NoMemory>
+    ensures { IfOk result (λ words. words.items ≡ word.now ∷ []) }
 {
     let mut words = Vec::new(alloc);
-    words.push(Text::from_string(String::from_str(alloc, "run")?))?;
+    words.push(Text::from_string(String::from_str(alloc, word)?))?;
     Ok(words)
 }
 
@@ -73,8 +73,13 @@ fn call<D: Disk + Drop>(
     (status, disk)
 }
 
-fn run_over<D: Disk + Drop>(alloc: Global, disk: D, script: &[u8]) -> Result<Left<D>, NoMemory> {
-    let words = run_word(alloc)?;
+fn run_over<D: Disk + Drop>(
+    alloc: Global,
+    word: &str,
+    disk: D,
+    script: &[u8],
+) -> Result<Left<D>, NoMemory> {
+    let words = one_word(alloc, word)?;
     let mut source = MemSource::make(Vec::from_slice(alloc, script)?, Vec::new(alloc));
     let mut sink = MemSink::make(Vec::new(alloc), Vec::new(alloc));
     let (status, disk) = call(alloc, &words, &mut source, &mut sink, disk);
@@ -109,10 +114,10 @@ impl Runs {
         }
     }
 
-    /// What a script prints over the journal.
-    pub fn run(&mut self, alloc: Global, script: &[u8]) -> Result<String, NoMemory> {
+    /// What the command of this word prints over the journal, with a script.
+    pub fn run(&mut self, alloc: Global, word: &str, script: &[u8]) -> Result<String, NoMemory> {
         let disk = disk_of(alloc, self.journal.as_slice())?;
-        let left = run_over(alloc, disk, script)?;
+        let left = run_over(alloc, word, disk, script)?;
         self.journal = Vec::from_slice(alloc, left.disk.bytes())?;
         Ok(left.printed)
     }
@@ -121,7 +126,7 @@ impl Runs {
 /// Runs a script over an empty disk that stops at the call with this number.
 pub fn run_to_stop(alloc: Global, call: u64, script: &[u8]) -> Result<Left<MemDisk>, NoMemory> {
     let disk = FusedDisk::make(disk_of(alloc, b"")?, call);
-    let left = run_over(alloc, disk, script)?;
+    let left = run_over(alloc, "run", disk, script)?;
     Ok(Left {
         status: left.status,
         printed: left.printed,
@@ -132,6 +137,6 @@ pub fn run_to_stop(alloc: Global, call: u64, script: &[u8]) -> Result<Left<MemDi
 /// What a script prints over the disk that a run left.
 pub fn run_behind(alloc: Global, left: Left<MemDisk>, script: &[u8]) -> Result<String, NoMemory> {
     let Left { disk, .. } = left;
-    let left = run_over(alloc, disk, script)?;
+    let left = run_over(alloc, "run", disk, script)?;
     Ok(left.printed)
 }

@@ -1,6 +1,9 @@
+ghost use Rattle.std.specs.Prelude.{◌≡◌};
+
 use device_state::{
-    Changes, Counters, EntryChange, FormChange, InstanceChange, SavepointChange, State,
+    Changes, Counters, EntryChange, FormChange, InstanceChange, ListChange, SavepointChange, State,
 };
+use field_ids::Draws;
 use field_text::{Blob, Text};
 use form_store::FormRec;
 use std::alloc::Global;
@@ -23,11 +26,12 @@ fn form(alloc: Global) -> Result<FormRec, Fail> {
 fn with_forms(counters: Counters, forms: FormChange) -> Changes {
     Changes {
         settings: None,
-        station: None,
+        server: None,
         counters,
         forms,
         instances: InstanceChange::Keep,
         savepoints: SavepointChange::Keep,
+        lists: ListChange::Keep,
         entry: EntryChange::Keep,
     }
 }
@@ -55,17 +59,24 @@ fn hidden_forms_that_nothing_names_are_gone(rt: HostRuntime) -> Result<(), Fail>
     check_hiding(&rt, rt.alloc(), &mut state)
 }
 
-#[test]
-fn entries_are_counted(rt: HostRuntime) -> Result<(), Fail> {
-    let counters = Counters {
+fn fourth() -> Counters
+    ensures position { result.position ≡ 4 }
+    ensures number { result.next_instance ≡ 2 }
+{
+    Counters {
         position: 4,
         last_tick: 1,
         next_instance: 2,
-    };
-    assert_eq!(rt; counters.one_further().position, 5);
-    assert_eq!(rt; counters.ticked().last_tick, 5);
-    assert_eq!(rt; counters.one_more().next_instance, 3);
-    let changes = Changes::counted(counters);
+        draws: Draws { device: 1, next: 5 },
+    }
+}
+
+#[test]
+fn entries_are_counted(rt: HostRuntime) -> Result<(), Fail> {
+    assert_eq!(rt; fourth().one_further().position, 5);
+    assert_eq!(rt; fourth().ticked().last_tick, 5);
+    assert_eq!(rt; fourth().one_more().next_instance, 3);
+    let changes = Changes::counted(fourth());
     assert!(rt; changes.settings.is_none());
     Ok(())
 }

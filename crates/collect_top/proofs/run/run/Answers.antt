@@ -2,7 +2,7 @@ use Rattle.std.proofs.Common.{refl, sym, subst}
 use Rattle.device_core.specs.Crash.{LeavesUnopened}
 use Rattle.device_core.specs.Faults.{IsOpenFault}
 use Rattle.device_core.specs.View.{IsOpened}
-use Rattle.collect_top.proofs.Runs.{has_run_at_once, has_run_unopened, has_run_answers, has_run_logs}
+use Rattle.collect_top.proofs.Runs.{has_run_at_once, has_run_unopened, has_run_answers, has_run_shows}
 use Rattle.collect_top.proofs.run.run.Goals as goal
 
 pub returns-in-Err : goal.returns-in-Err
@@ -25,5 +25,11 @@ returns-in-Run g c =
 pub returns-in-Log : goal.returns-in-Log
 returns-in-Log g c =
     let e = c.in-Ok-open_device.ensures in
-    rw (c.as_ran-in-Log.ensures, c.in-Log.is) (has_run_logs _ _ _ _ _ c.in-Ok-open_device.device _ _ _
-    (subst (λ o. IsOpened o c.in-Ok-open_device.device) c.in-Ok.ensures.opening e.opened) e.read e.moment e.any_moment e.kept _ (c.print_log.ensures _ _) refl refl)
+    rw (c.as_ran-in-Log.ensures, c.in-Log.is) (has_run_shows _ _ _ _ _ c.in-Ok-open_device.device _ _ _
+    (subst (λ o. IsOpened o c.in-Ok-open_device.device) c.in-Ok.ensures.opening e.opened) e.read e.moment e.any_moment e.kept _ _ (c.print_log.ensures _ _) refl refl)
+
+pub returns-in-Check : goal.returns-in-Check
+returns-in-Check g c =
+    let e = c.in-Ok-open_device.ensures in
+    rw (c.as_ran-in-Check.ensures, c.in-Check.is) (has_run_shows _ _ _ _ _ c.in-Ok-open_device.device _ _ _
+    (subst (λ o. IsOpened o c.in-Ok-open_device.device) c.in-Ok.ensures.opening e.opened) e.read e.moment e.any_moment e.kept _ _ (c.print_counts.ensures _ _) refl refl)

@@ -1,5 +1,7 @@
 use Rattle.std.proofs.Common.{refl, sym}
+use Rattle.device_laws.proofs.FinalHistories.{history_keeps_finals}
 use Rattle.device_laws.proofs.Histories.{history_keeps}
+use Rattle.device_laws.proofs.IdHistories.{history_keeps_ids_apart}
 use Rattle.collect_top.proofs.Headlines.{headline, headline_of_usage}
 use Rattle.collect_top.proofs.top.collect_alone.Goals as goal
 
@@ -26,3 +28,15 @@ returns-in_default-clause-used_forms g c = history_keeps _
 
 pub returns-clause-used_forms : goal.returns-clause-used_forms
 returns-clause-used_forms g c = history_keeps _
+
+pub returns-in_default-clause-finals : goal.returns-in_default-clause-finals
+returns-in_default-clause-finals g c = history_keeps_finals _
+
+pub returns-clause-finals : goal.returns-clause-finals
+returns-clause-finals g c = history_keeps_finals _
+
+pub returns-in_default-clause-ids : goal.returns-in_default-clause-ids
+returns-in_default-clause-ids g c = history_keeps_ids_apart _
+
+pub returns-clause-ids : goal.returns-clause-ids
+returns-clause-ids g c = history_keeps_ids_apart _

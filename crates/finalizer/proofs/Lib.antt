@@ -1,0 +1,4 @@
+pub mod Finalizing
+pub mod DrawLemmas
+pub mod FormOrders
+pub mod KeptFinalLemmas
