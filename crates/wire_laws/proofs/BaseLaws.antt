@@ -1,7 +1,8 @@
 -- A text has exactly one base, or none.
 use Rattle.std.specs.Prelude.{◌≡◌, ◌⊎◌, ℕ, ◌||◌, ◌==◌, not, List, [], length, Option, None, option_map, is_some, refl}
+use Rattle.std.specs.Prelude.{Result, Ok, Err, IfOk}
 use Rattle.std.specs.Prelude.{if◌then◌else◌}
-use Rattle.std.proofs.Common.{inl, inr, ap, sym, ◌∙◌}
+use Rattle.std.proofs.Common.{inl, inr, sym, ◌∙◌}
 use Rattle.http_uri.specs.declared.uri.Uri.{Uri}
 use Rattle.http_uri.specs.Grammar.{path_of, query_of}
 use Rattle.http_uri.specs.Uri.{Spells, SpellsNone, uri_scheme, uri_authority, uri_data}
@@ -54,3 +55,8 @@ has_base text = has text (spelled text)
 pub one_base : (text : List ℕ) (found : Option Address) → HasAddress base_of text found → found ≡ base_in text
 unfolding base_in
 one_base text found is = same text found (spelled text) is
+
+pub told : {E : Type 0} (text : List ℕ) (r : Result (Option Address) E) → IfOk r (HasAddress base_of text)
+    → IfOk r (λ found. found ≡ base_in text)
+told text (Ok found) is = one_base text found is
+told text (Err e) is = tt

@@ -1,16 +1,16 @@
 -- Bytes are one reply at most.
-use Rattle.std.specs.Prelude.{◌≡◌, ◌≢◌, ◌⊎◌, ℕ, ◌<◌, ◌≤◌, ◌+◌, List, [], ◌∷◌, ◌++◌, length, refl}
-use Rattle.std.proofs.Common.{inl, inr, ap, sym, ◌∙◌, subst, arith, append_assoc, append-nil, length-append}
+use Rattle.std.specs.Prelude.{◌≡◌, ◌≢◌, ℕ, ◌<◌, List, [], ◌∷◌, ◌++◌, length, refl}
+use Rattle.std.proofs.Common.{ap, sym, ◌∙◌, subst, arith, append-nil, length-append}
 use Rattle.std.proofs.lemmas.List.{append_cancel_left}
 use Rattle.httparse.specs.Ascii.{crlf_bytes}
-use Rattle.httparse.specs.Grammar.{ResponseHead, status_code, ReadsSection, ChunkLine, ReadsChunkLine, HasNoChunkLine}
-use Rattle.httparse.specs.Grammar.{NeverHasChunkLine, MayBecomeChunkLine, chunk_size, NeverHasSection, HasNoSection}
+use Rattle.httparse.specs.Grammar.{ResponseHead, status_code, ReadsSection, ReadsChunkLine, HasNoChunkLine}
+use Rattle.httparse.specs.Grammar.{NeverHasChunkLine, MayBecomeChunkLine, chunk_size}
 use Rattle.httparse.proofs.ChunkLemmas.{chunk_line_unique}
 use Rattle.httparse.proofs.GrammarLemmas.{section_unique}
 use Rattle.http_reply.specs.declared.framing.Framing.{Framing}
 use Rattle.http_reply.specs.declared.framing.Framing.TheVariants.{Wrong, Nothing, Chunked, Length, ToEnd}
 use Rattle.http_reply.specs.Bodies.{ReadsBody}
-use Rattle.http_reply.specs.Chunks.{HasTrailers, ReadsTrailers, HasSize, HasChunk, ReadsChunks}
+use Rattle.http_reply.specs.Chunks.{HasTrailers, ReadsTrailers, HasSize, ReadsChunks}
 use Rattle.http_reply.specs.Chunks.ReadsTrailers.{is_whole, is_short, never, too_many}
 use Rattle.http_reply.specs.Chunks.ReadsChunks.{no_line, bad_line, last, no_data, no_end, bad_end, chunk}
 use Rattle.http_reply.specs.Framings.{reply_framing}

@@ -1,5 +1,5 @@
 -- All replies that bytes are have one status.
-use Rattle.std.specs.Prelude.{◌≡◌, ◌⊎◌, ℕ, ◌||◌, ◌==◌, List, refl}
+use Rattle.std.specs.Prelude.{◌≡◌, ◌⊎◌, ℕ, Bool, ◌||◌, ◌==◌, List, refl}
 use Rattle.std.proofs.Common.{inl, inr, ap}
 use Rattle.httparse.specs.Grammar.{ResponseHead, status_code}
 use Rattle.http_reply.specs.Reads.{Read, whole, short, bad}
@@ -51,3 +51,8 @@ one_status bytes reply (headed head rest finds body) = the_status bytes (final_d
 pub accepted : (bytes : List ℕ) (reply : Reply) → IsReply bytes reply → is_accepted reply ≡ accepts bytes
 unfolding accepts
 accepted bytes reply is = ap (λ (status : ℕ). (status == 201) || (status == 202)) (one_status bytes reply is)
+
+-- what a call tells of some reply that the bytes are
+pub told : (bytes : List ℕ) (answer : Bool) (reply : Reply) → IsReply bytes reply → answer ≡ is_accepted reply
+    → answer ≡ accepts bytes
+told bytes answer reply is same = same ∙ accepted bytes reply is

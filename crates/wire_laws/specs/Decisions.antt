@@ -1,6 +1,6 @@
 -- Proofs that facts hold or don't, put together from such proofs of their parts; and no definitions.
 use Rattle.std.specs.Prelude.{◌≡◌, ◌⊎◌, ℕ, zero, suc, ◌<◌, ◌≤◌, Bool, true, List, bytes_eq, IsUtf8, Option, Some, None}
-use Rattle.std.specs.Prelude.{IfSome, refl}
+use Rattle.std.specs.Prelude.{IfSome}
 use Rattle.std.specs.List.{list_all, AllPass}
 use Rattle.std.specs.Str.{is_utf8}
 use Rattle.std.proofs.Common.{inl, inr, sym, ◌∙◌, subst, arith}

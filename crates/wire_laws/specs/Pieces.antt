@@ -175,6 +175,7 @@ text_decided (b ∷ text) = elim (newline_decided (b ∷ text)) [
     more [] end rest all is none other = none (end, rest, is)
     more (c ∷ a) end rest all is none other =
         other ((a, end), rest, (All-tail (λ (v : ℕ). is_value_byte v ≡ true) c a all, same_tail is))
+
     first : (a : List ℕ) (end : LineEnd) (rest : List ℕ) → AllPass is_value_byte a
         → b ∷ text ≡ a ++ (print_end end ++ rest) → ¬ (Begins Newline (b ∷ text)) → is_value_byte b ≡ false → ⊥
     first [] end rest all is none fails = none (end, rest, is)
@@ -202,6 +203,7 @@ reason_decided text = elim (newline_decided text) [
     phrase None end rest behind is none space other = none (end, rest, is.1)
     phrase (Some a) end rest behind is none space other =
         other ((a, end), rest, (is.0, same_tail (sym space ∙ is.1)))
+
     first : (o : Option (List ℕ)) (end : LineEnd) (rest : List ℕ) → Reason (o, end) text rest
         → ¬ (Begins Newline text) → ¬ (Begins (Bytes (32 ∷ [])) text) → ⊥
     first None end rest is none other = none (end, rest, is.1)
@@ -239,6 +241,7 @@ behind_name (b ∷ text) = elim (cases_eq b 58) [
     more [] rest all is none other = none (same_head is)
     more (c ∷ a) rest all is none other =
         other (a, rest, (All-tail (λ (v : ℕ). is_token_byte v ≡ true) c a all, same_tail is))
+
     first : (a rest : List ℕ) → AllPass is_token_byte a → b ∷ text ≡ a ++ 58 ∷ rest → ¬ (b ≡ 58)
         → is_token_byte b ≡ false → ⊥
     first [] rest all is none fails = none (same_head is)

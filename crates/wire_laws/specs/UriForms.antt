@@ -1,6 +1,6 @@
 -- Proofs that a text spells a URI or none, and no definitions.
 use Rattle.std.specs.Prelude.{◌≡◌, ◌≢◌, ◌⊎◌, ◌+◌, ◌-◌, ℕ, IfSome, ◌<◌, ◌≤◌, List, [], codes, length, take, drop, slice_index}
-use Rattle.std.specs.Prelude.{Option, Some, None, IsTrue, refl}
+use Rattle.std.specs.Prelude.{Some, None, refl}
 use Rattle.std.proofs.Common.{inl, inr, ap, sym, ◌∙◌, subst}
 use Rattle.std.proofs.lemmas.Bool.{cases_eq}
 use Rattle.http_uri.specs.declared.uri.Uri.{Uri}
@@ -29,8 +29,10 @@ may_follow front b =
   where
     colons : Decision (b ≡ 58 → count_of 58 (last_piece front) < 8)
     colons = implies (cases_eq b 58) (less (count_of 58 (last_piece front)) 8)
+
     opening : Decision (b ≡ 91 → (count_of 91 front ≡ 0) × (count_of 37 (last_piece front) ≡ 0))
     opening = implies (cases_eq b 91) (both (cases_eq (count_of 91 front) 0) (cases_eq (count_of 37 (last_piece front)) 0))
+
     closing : Decision (b ≡ 93 → (0 < count_of 91 front) × (count_of 93 front ≡ 0))
     closing = implies (cases_eq b 93) (both (less 0 (count_of 91 front)) (cases_eq (count_of 93 front) 0))
 
@@ -51,16 +53,21 @@ is_authority text =
   where
     nonempty : Decision (0 < length text)
     nonempty = less 0 (length text)
+
     bytes : Decision ((i : ℕ) → i < length text → MayFollow (take i text) (slice_index text i))
     bytes =
         all_below (length text) (λ i. MayFollow (take i text) (slice_index text i))
         (λ i. may_follow (take i text) (slice_index text i))
+
     closed : Decision (count_of 91 text ≡ count_of 93 text)
     closed = cases_eq (count_of 91 text) (count_of 93 text)
+
     one_colon : Decision (count_of 58 (last_piece text) ≤ 1)
     one_colon = at_most (count_of 58 (last_piece text)) 1
+
     no_percent : Decision (count_of 37 (last_piece text) ≡ 0)
     no_percent = cases_eq (count_of 37 (last_piece text)) 0
+
     has_host : Decision (slice_index text (length text - 1) ≢ 64)
     has_host = never (cases_eq (slice_index text (length text - 1)) 64)
 
@@ -75,8 +82,10 @@ is_path_and_query text =
     start =
         either (same_text text []) (either (same_text text (codes "*"))
         (either (cases_eq (slice_index text 0) 47) (cases_eq (slice_index text 0) 63)))
+
     path : Decision (AllPass is_path_byte (split_once_front 63 text))
     path = all_pass is_path_byte (split_once_front 63 text)
+
     query : Decision (IfSome (split_once_back 63 text) (AllPass is_query_byte))
     query = if_some (AllPass is_query_byte) (split_once_back 63 text) (all_pass is_query_byte)
 

@@ -8,6 +8,7 @@ use std::alloc::Global;
 
 /// The base of a server's addresses: an absolute form with the scheme `http`, and no user and no query (RFC 3986,
 /// section 4.3). None where the text is none.
+#[tactic(auto, using(crate::proofs::BaseLaws::told))]
 pub fn server_base(alloc: Global, text: &Text) -> Result<Option<Address>, NoMemory>
     ensures { IfOk result (λ found. found ≡ base_in text.now) }
 {

@@ -1,7 +1,5 @@
-use Rattle.std.proofs.Common.{◌∙◌}
-use Rattle.wire_laws.proofs.Statuses.{accepted}
+use Rattle.wire_laws.proofs.Statuses.{told}
 use Rattle.wire_laws.proofs.acceptance.accepts.Goals as goal
 
 pub returns : goal.returns
-returns c =
-    let told = c.accepted.ensures in told.2 ∙ accepted c.args.bytes.now told.0 told.1
+returns c = let of_reply = c.accepted.ensures in told c.args.bytes.now _ of_reply.0 of_reply.1 of_reply.2
