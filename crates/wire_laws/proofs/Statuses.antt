@@ -1,6 +1,6 @@
 -- All replies that bytes are have one status.
 use Rattle.std.specs.Prelude.{◌≡◌, ◌⊎◌, ℕ, Bool, ◌||◌, ◌==◌, List, refl}
-use Rattle.std.proofs.Common.{inl, inr, ap}
+use Rattle.std.proofs.Common.{inl, inr, ap, ◌∙◌}
 use Rattle.httparse.specs.Grammar.{ResponseHead, status_code}
 use Rattle.http_reply.specs.Reads.{Read, whole, short, bad}
 use Rattle.http_reply.specs.Heads.{FindsHead}
