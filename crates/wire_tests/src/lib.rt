@@ -10,3 +10,5 @@ mod http_request_tests;
 mod http_wire_tests;
 #[cfg(test)]
 mod submission_wire_tests;
+#[cfg(test)]
+mod wire_laws_tests;
