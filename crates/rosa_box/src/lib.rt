@@ -1,0 +1,11 @@
+//! A server of OpenRosa in memory: what it answers to a request, and what it then keeps. Today it takes submissions; the
+//! forms and lists that it has are served to nobody yet.
+#![tactic(auto)]
+
+mod asked;
+mod reply;
+mod server;
+mod state;
+
+pub use server::serve;
+pub use state::{BoxForm, BoxKept, BoxList, BoxState};
