@@ -3,9 +3,11 @@
 #![tactic(auto)]
 
 mod asked;
+mod laws;
 mod reply;
 mod server;
 mod state;
 
+pub use laws::submissions_stay;
 pub use server::serve;
 pub use state::{BoxForm, BoxKept, BoxList, BoxState};
