@@ -53,8 +53,7 @@ asks_one bytes _ _ (readable one a x by) (readable other b y also) =
 pub one_answer : AnswersAreOne
 one_answer before one other request reply again x y =
     let same : x.asked ≡ y.asked = asks_one request x.asked y.asked x.asks y.asks in
-    let outcome : served before x.asked ≡ served before y.asked = ap (served before) same in
-    (
+    let outcome : served before x.asked ≡ served before y.asked = ap (served before) same in (
       x.leaves.state_is ∙ ap (λ (o : Outcome). o.state) outcome ∙ sym y.leaves.state_is,
       x.leaves.reply_is ∙ ap (λ (o : Outcome). reply_text o.status) outcome ∙ sym y.leaves.reply_is,
     )

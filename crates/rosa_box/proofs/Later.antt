@@ -32,13 +32,13 @@ module _ {X : Type 0} (p : X → Bool) where
     | inr fails ↦ in_either k d fails (none_passes xs (subst (λ b. cond b (Some x) (find p xs) ≡ None) fails none)) within
   ]
     where
-    some_is_none : (x : X) → Some x ≡ None → ⊥
-    some_is_none x is = cc
+      some_is_none : (x : X) → Some x ≡ None → ⊥
+      some_is_none x is = cc
 
-    in_either : (k : ℕ) (d : X) → p x ≡ false → ((j : ℕ) (d : X) → j < length xs → p (get_or xs j d) ≡ false)
-        → k < length (x ∷ xs) → p (get_or (x ∷ xs) k d) ≡ false
-    in_either zero d fails rest within = fails
-    in_either (suc k) d fails rest within = rest k d (omega (arith, within))
+      in_either : (k : ℕ) (d : X) → p x ≡ false → ((j : ℕ) (d : X) → j < length xs → p (get_or xs j d) ≡ false)
+          → k < length (x ∷ xs) → p (get_or (x ∷ xs) k d) ≡ false
+      in_either zero d fails rest within = fails
+      in_either (suc k) d fails rest within = rest k d (omega (arith, within))
 
   -- what was found is there, and passes
   found_there : (xs : List X) (x : X) → find p xs ≡ Some x → Contains xs x × (p x ≡ true)
@@ -54,7 +54,7 @@ module _ {X : Type 0} (p : X → Bool) where
 
 -- ---- one answer
 
-unchanged : (state : BoxState) → IsLater state state
+pub unchanged : (state : BoxState) → IsLater state state
 unchanged state = record { more = []; grown = ap (λ kept. record state { kept = kept }) (sym (append-nil state.kept)) }
 
 later_by : (before : BoxState) (new : BoxKept) (found : Option BoxKept)
@@ -138,9 +138,9 @@ taken_by before new (Some old) found is =
     let same : old ≡ new = λ i. record { instance_id = id i; bytes = bytes i } in
     subst (Contains before.kept) same there.0
   where
-  taken_if : (same : Bool) → (if same then status.Created else status.Conflict) ≡ status.Created → same ≡ true
-  taken_if true is = refl
-  taken_if false is = absurd (cc)
+    taken_if : (same : Bool) → (if same then status.Created else status.Conflict) ≡ status.Created → same ≡ true
+    taken_if true is = refl
+    taken_if false is = absurd (cc)
 
 served_taken : (before : BoxState) (a : Asked) → (served before a).status ≡ status.Created
     → TakenIn before (served before a).state a
@@ -154,8 +154,7 @@ served_taken before (asked.Submission new) is =
 pub taken_are_kept : TakenAreKept
 taken_are_kept before after request is =
     let created = not_taken (served before is.asked).status (ap digit is.leaves.reply_is) in
-    let taken = served_taken before is.asked created in
-    (
+    let taken = served_taken before is.asked created in (
       taken.0,
       subst (Asks request) taken.1 is.asks,
       subst (λ (s : BoxState). Contains s.kept taken.0) (sym is.leaves.state_is) taken.2,

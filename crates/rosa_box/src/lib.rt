@@ -3,11 +3,15 @@
 #![tactic(auto)]
 
 mod asked;
+mod calls;
+mod dialer;
 mod laws;
 mod reply;
 mod server;
+mod session;
 mod state;
 
+pub use dialer::BoxDialer;
 pub use laws::submissions_stay;
 pub use server::serve;
 pub use state::{BoxForm, BoxKept, BoxList, BoxState};

@@ -37,10 +37,8 @@ impl Status {
                 "<OpenRosaResponse xmlns=\"http://openrosa.org/http/response\">\
                  <message>accepted</message></OpenRosaResponse>"
             }
-            Status::BadRequest
-            | Status::NotFound
-            | Status::MethodNotAllowed
-            | Status::Conflict => "",
+            Status::BadRequest | Status::NotFound | Status::MethodNotAllowed | Status::Conflict =>
+                "",
         }
     }
 }
