@@ -142,6 +142,7 @@ impl Session {
         reached: Result<(), Failed>,
     ) -> Result<(), NoMemory>
         ensures carried { Makes self.old.carried self.new.carried (λ xs. xs ++ dialed authority.now reached ∷ []) }
+        ensures forgotten { OnErr result (self.new.carried ≡ None) }
         ensures opened { OnOk result (self.new.is_open ≡ is_ok reached) }
         ensures shut { OnErr result (self.new.is_open ≡ false) }
         ensures fresh { self.new.has_taken ≡ false }
@@ -168,6 +169,7 @@ impl Session {
         requires opened { self.old.is_open ≡ true }
         requires fresh { self.old.has_taken ≡ false }
         ensures carried { Makes self.old.carried self.new.carried (change_last (sent_on bytes.now count)) }
+        ensures forgotten { OnErr result (self.new.carried ≡ None) }
         ensures kept { self.new ≡ record self.old { carried = self.new.carried } }
     {
         if add_sent(self.alloc, &mut self.sent, bytes, count).is_err() {
