@@ -6,7 +6,6 @@ use Rattle.instance_doc.specs.declared.instance.Read.{Read}
 use Rattle.rosa_box.specs.declared.asked.Asked.{Asked}
 use Rattle.rosa_box.specs.declared.asked.Asked.TheVariants as asked
 use Rattle.rosa_box.specs.declared.state.BoxKept.{BoxKept}
-use Rattle.rosa_box.specs.declared.state.BoxState.{BoxState}
 use Rattle.rosa_box.specs.Answers.{reply_text}
 use Rattle.rosa_box.specs.Asked.{Asks, AskedBy, HasId, Submits}
 use Rattle.rosa_box.specs.Asked.Asks.{unreadable, readable}

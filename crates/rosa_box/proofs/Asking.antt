@@ -1,10 +1,10 @@
 -- What the code's parts find is what a request asks.
-use Rattle.std.proofs.Common.{◌≡◌, ◌≢◌, List, [], ℕ, Bool, true, false, codes, Option, Some, None, Result, Ok, Err}
+use Rattle.std.proofs.Common.{◌≡◌, ◌≢◌, List, [], ℕ, true, false, codes, Option, Some, None, Result, Ok, Err}
 use Rattle.std.proofs.Common.{IfOk, sym, ap, subst, ◌∙◌}
 use Rattle.std.specs.Prelude.{MatchOption, bytes_eq}
 use Rattle.std.proofs.lemmas.Slice.Eq.{bytes_eq-Decides}
 use Rattle.http_request.specs.declared.request.Request.{Request}
-use Rattle.http_request.specs.Requests.{IsRequest, ReadsAs}
+use Rattle.http_request.specs.Requests.{ReadsAs}
 use Rattle.instance_doc.specs.declared.instance.Read.{Read}
 use Rattle.instance_doc.specs.Instances.{read_of, ReadsAs as ReadsInstance}
 use Rattle.rosa_doc.specs.declared.tree.Doc.{Doc}
@@ -18,7 +18,7 @@ use Rattle.submission_wire.proofs.Returned.{one_submission}
 use Rattle.rosa_box.specs.declared.state.BoxKept.{BoxKept}
 use Rattle.rosa_box.specs.declared.asked.Asked.{Asked}
 use Rattle.rosa_box.specs.declared.asked.Asked.TheVariants as asked
-use Rattle.rosa_box.specs.Asked.{Asks, AskedBy, HasId, Submits, SubmitsOrNone, NamesOrNone, IsPosted, submission_target}
+use Rattle.rosa_box.specs.Asked.{Asks, AskedBy, HasId, SubmitsOrNone, NamesOrNone}
 use Rattle.rosa_box.specs.Asked.Asks.{unreadable, readable}
 use Rattle.rosa_box.specs.Asked.AskedBy.{elsewhere, other_method, nothing, submission}
 

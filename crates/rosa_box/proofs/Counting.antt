@@ -1,5 +1,5 @@
 -- How many listed calls there were.
-use Rattle.std.proofs.Common.{◌≡◌, ℕ, ◌+◌, ◌≤◌, ◌<◌, min, Bool, true, false, ◌||◌, cond, List, [], ◌∷◌, refl, sym, ap, subst, ◌∙◌}
+use Rattle.std.proofs.Common.{◌≡◌, ℕ, ◌+◌, ◌≤◌, true, false, ◌||◌, cond, List, [], ◌∷◌, sym, ap, subst}
 use Rattle.std.proofs.Common.{arith, inl, inr}
 use Rattle.std.specs.Prelude.{nat_le, nat_eq}
 use Rattle.std.specs.List.{list_any}
@@ -44,8 +44,13 @@ listed_now : (calls : ℕ) (fails : List ℕ) → list_any (λ n. nat_eq n (call
 listed_now calls [] is = absurd (let e : false ≡ true = is in cc)
 listed_now calls (n ∷ rest) is = elim (cases_Bool (nat_eq n (calls + 1))) [
   | inl same ↦
-      omega (arith, by_first calls n rest, by_first (calls + 1) n rest, one_now calls n (eqb-true n (calls + 1) same),
-      listed_more calls rest)
+      omega (
+        arith,
+        by_first calls n rest,
+        by_first (calls + 1) n rest,
+        one_now calls n (eqb-true n (calls + 1) same),
+        listed_more calls rest,
+      )
   | inr other ↦
       let later : list_any (λ k. nat_eq k (calls + 1)) rest ≡ true =
       subst (λ b. (b || list_any (λ k. nat_eq k (calls + 1)) rest) ≡ true) other is in

@@ -17,9 +17,9 @@ use Rattle.rosa_box.specs.declared.state.BoxState.{BoxState}
 use Rattle.rosa_box.specs.Answers.{reply_text}
 use Rattle.rosa_box.specs.Asked.{Asks}
 use Rattle.rosa_box.specs.Kept.{is_under, kept_under}
-use Rattle.rosa_box.specs.Laws.{ServesAll, IsLater, IdsDiffer, KeptStay, IdsStayApart, TakenAreKept}
+use Rattle.rosa_box.specs.Laws.{IsLater, IdsDiffer, KeptStay, IdsStayApart, TakenAreKept}
 use Rattle.rosa_box.specs.Laws.ServesAll.{at_rest, onward}
-use Rattle.rosa_box.specs.Served.{Outcome, Serves, served, submitted}
+use Rattle.rosa_box.specs.Served.{Serves, served, submitted}
 
 -- ---- what was found, and what wasn't
 

@@ -1,5 +1,5 @@
 -- Where a server stands behind each call of its dialer.
-use Rattle.std.proofs.Common.{◌≡◌, ◌≢◌, ℕ, ◌+◌, ◌-◌, ◌≤◌, ◌<◌, ◌==◌, ◌||◌, Bool, true, false, true≢false, List, [], ◌∷◌, ◌++◌, take, drop}
+use Rattle.std.proofs.Common.{◌≡◌, ◌≢◌, ℕ, ◌≤◌, ◌==◌, ◌||◌, Bool, true, false, true≢false, List, [], ◌∷◌, ◌++◌, take, drop}
 use Rattle.std.proofs.Common.{length, Option, Some, None, Result, Ok, Err, IfOk, IfSome, inl, inr, zero, suc, refl, sym, ap, subst, ◌∙◌, arith}
 use Rattle.std.specs.Prelude.{is_ok, MatchOption, OnOk}
 use Rattle.std.specs.Option.{is_some}
@@ -13,7 +13,7 @@ use Rattle.field_io.specs.declared.exchange.Exchange.{Exchange}
 use Rattle.field_io.specs.Exchanges.{Makes, change_last, dialed, sent_on, taken_on, failed_at, first_failed}
 use Rattle.field_io.proofs.LastItem.{change_last_snoc}
 use Rattle.rosa_box.specs.declared.state.BoxState.{BoxState}
-use Rattle.rosa_box.specs.Answering.{HasAnswered, IsMoved, Moves, sent_behind}
+use Rattle.rosa_box.specs.Answering.{HasAnswered, Moves, sent_behind}
 use Rattle.rosa_box.specs.Answering.HasAnswered.{just_now, already}
 use Rattle.rosa_box.specs.Carried.{IsUntaken, MayBeTaken, IsFront, Exchanged, Leads}
 use Rattle.rosa_box.specs.Carried.MayBeTaken.{gave, ended, failed, unmarked}
@@ -138,11 +138,11 @@ may_begin x buffer (Ok zero) none reached within = ended (or_true x.ended)
 may_begin x buffer (Ok (suc n)) none reached within = gave (λ is. some_taken n buffer within (both_empty x.taken (take (suc n) buffer) is).1)
 may_begin x buffer (Err e) none reached within = begin_failed x.failed refl
   where
-  begin_failed : (o : Option Stage) → x.failed ≡ o → MayBeTaken (failed_at Take x)
-  begin_failed None is = failed (ap (first_failed Take) is)
-  begin_failed (Some Dial) is = absurd (reached is)
-  begin_failed (Some Send) is = unmarked (ap (first_failed Take) is)
-  begin_failed (Some Take) is = failed (ap (first_failed Take) is)
+    begin_failed : (o : Option Stage) → x.failed ≡ o → MayBeTaken (failed_at Take x)
+    begin_failed None is = failed (ap (first_failed Take) is)
+    begin_failed (Some Dial) is = absurd (reached is)
+    begin_failed (Some Send) is = unmarked (ap (first_failed Take) is)
+    begin_failed (Some Take) is = failed (ap (first_failed Take) is)
 
 -- the end is given where nothing is left
 end_told : (x : Exchange) (n : ℕ) (P : Type 0) → (x.ended || (n == 0)) ≡ true → (x.ended ≡ true → P) → (n ≡ 0 → P) → P
@@ -160,10 +160,10 @@ module _ {E : Type 0} (start : BoxState) (is_open : Bool) (past : List Exchange)
   taken_then at behind (Ok n) taken whole may (moved, place) =
       answering past (taken_on {E = E} buffer (Ok n) x) middle reply led serves may
       (
-        ap (λ t. t ++ take n buffer) taken
-        ∙ ap (λ t. take at reply ++ t) moved.bytes
-        ∙ sym (take-add at n reply)
-        ∙ ap (λ k. take k reply) (sym place)
+      ap (λ t. t ++ take n buffer) taken
+      ∙ ap (λ t. take at reply ++ t) moved.bytes
+      ∙ sym (take-add at n reply)
+      ∙ ap (λ k. take k reply) (sym place)
       )
       (λ is. end_told x n (behind ≡ length reply) is
       (λ was. let w = whole was in let within = moved.within in omega (arith, place, w, within))
@@ -208,9 +208,9 @@ module _ (start state : BoxState) (is_open : Bool) (sent : List ℕ) (count : �
   told_lead = moved old old (λ xs. xs) (Stands start state is_open sent count reply) (λ xs. Leads start xs state) stood
       (same_told old) (leads start state is_open sent count reply)
     where
-    same_told : (o : Option (List Exchange)) → Makes o o (λ xs. xs)
-    same_told None = tt
-    same_told (Some xs) = refl
+      same_told : (o : Option (List Exchange)) → Makes o o (λ xs. xs)
+      same_told None = tt
+      same_told (Some xs) = refl
 
   pub dial_stands : {T E : Type 0} (authority : List ℕ) (reached : Result T E) (opens : Bool) (fresh : List ℕ)
       → Makes old new (λ xs. xs ++ dialed authority reached ∷ []) → opens ≡ is_ok reached → fresh ≡ []
@@ -280,10 +280,10 @@ module _ {T E : Type 0} (first : ℕ) (before after : BoxState) (sent : List ℕ
       → IfSome given (λ r. count ≤ length r)
   within_answered count = within_so count reply given answered_so
     where
-    within_so : (count : ℕ) (reply given : Option (List ℕ)) → HasAnswered before sent after reply given
-        → MatchOption reply (count ≡ 0) (λ r. count ≤ length r) → IfSome given (λ r. count ≤ length r)
-    within_so count _ _ (just_now reply serves) none = omega (arith, none)
-    within_so count _ _ (already reply same) within = within
+      within_so : (count : ℕ) (reply given : Option (List ℕ)) → HasAnswered before sent after reply given
+          → MatchOption reply (count ≡ 0) (λ r. count ≤ length r) → IfSome given (λ r. count ≤ length r)
+      within_so count _ _ (just_now reply serves) none = omega (arith, none)
+      within_so count _ _ (already reply same) within = within
 
   pub within_moved : {F : Type 0} (at behind : ℕ) (buffer : List ℕ) (call : Result ℕ F)
       → MatchOption reply (at ≡ 0) (λ r. at ≤ length r) → Moves given at behind buffer call
@@ -291,15 +291,15 @@ module _ {T E : Type 0} (first : ℕ) (before after : BoxState) (sent : List ℕ
   within_moved {F = F} at behind buffer call within moves =
       moved_so given call (within_answered at within) (some_given reply given answered_so) moves
     where
-    some_given : (reply given : Option (List ℕ)) → HasAnswered before sent after reply given → given ≢ None
-    some_given _ _ (just_now reply serves) is = cc
-    some_given _ _ (already reply same) is = cc
+      some_given : (reply given : Option (List ℕ)) → HasAnswered before sent after reply given → given ≢ None
+      some_given _ _ (just_now reply serves) is = cc
+      some_given _ _ (already reply same) is = cc
 
-    moved_so : (given : Option (List ℕ)) (call : Result ℕ F) → IfSome given (λ r. at ≤ length r) → given ≢ None
-        → Moves given at behind buffer call → MatchOption given (behind ≡ 0) (λ r. behind ≤ length r)
-    moved_so None call within some moves = absurd (some refl)
-    moved_so (Some r) (Ok n) within some (moved, place) = let w = moved.within in omega (arith, w, place)
-    moved_so (Some r) (Err e) within some place = omega (arith, within, place)
+      moved_so : (given : Option (List ℕ)) (call : Result ℕ F) → IfSome given (λ r. at ≤ length r) → given ≢ None
+          → Moves given at behind buffer call → MatchOption given (behind ≡ 0) (λ r. behind ≤ length r)
+      moved_so None call within some moves = absurd (some refl)
+      moved_so (Some r) (Ok n) within some (moved, place) = let w = moved.within in omega (arith, w, place)
+      moved_so (Some r) (Err e) within some place = omega (arith, within, place)
 
 -- ---- the end of a connection
 

@@ -1,7 +1,7 @@
 -- Replies as bytes (RFC 9112, sections 4 and 5): a status line, the fields of every reply, an empty line and the body.
 use Rattle.std.specs.Prelude.{ℕ, List, [], ◌++◌, codes, length}
 use Rattle.std.specs.Fmt.{decimal}
-use Rattle.http_wire.specs.Requests.{crlf, field_line, closing}
+use Rattle.http_wire.specs.Requests.{field_line, closing}
 use Rattle.rosa_box.specs.declared.reply.Status.{Status}
 use Rattle.rosa_box.specs.declared.reply.Status.TheVariants as status
 

@@ -1,6 +1,5 @@
 -- What exchanges with the server make of what it has, and what each may take.
-use Rattle.std.specs.Prelude.{◌≡◌, ◌≢◌, ℕ, true, false, List, [], ◌∷◌, ◌++◌, Option, Some}
-use Rattle.field_io.specs.declared.dialer.Stage.{Stage}
+use Rattle.std.specs.Prelude.{◌≡◌, ◌≢◌, ℕ, true, false, List, [], ◌∷◌, ◌++◌, Some}
 use Rattle.field_io.specs.declared.dialer.Stage.TheVariants.{Send, Take}
 use Rattle.field_io.specs.declared.exchange.Exchange.{Exchange}
 use Rattle.rosa_box.specs.declared.state.BoxState.{BoxState}

@@ -1,5 +1,5 @@
 -- The server as a function: what it has behind a request, and the status of its reply.
-use Rattle.std.specs.Prelude.{◌≡◌, ℕ, List, [], ◌∷◌, ◌++◌, Option, Some, None, bytes_eq, if◌then◌else◌, Result, Ok, Err}
+use Rattle.std.specs.Prelude.{◌≡◌, ℕ, List, [], ◌∷◌, ◌++◌, Option, Some, None, bytes_eq, if◌then◌else◌}
 use Rattle.rosa_box.specs.declared.asked.Asked.{Asked}
 use Rattle.rosa_box.specs.declared.asked.Asked.TheVariants as asked
 use Rattle.rosa_box.specs.declared.reply.Status.{Status}

@@ -1,6 +1,5 @@
 -- Where the server stands in its last exchange.
-use Rattle.std.specs.Prelude.{◌≡◌, ◌≢◌, ℕ, ◌≤◌, Bool, true, false, List, [], ◌∷◌, ◌++◌, take, length, Option, Some, None}
-use Rattle.std.specs.Prelude.{IfSome}
+use Rattle.std.specs.Prelude.{◌≡◌, ◌≢◌, ℕ, Bool, true, false, List, [], ◌∷◌, ◌++◌, take, length, Option, Some, None}
 use Rattle.field_io.specs.declared.dialer.Stage.TheVariants.{Dial}
 use Rattle.field_io.specs.declared.exchange.Exchange.{Exchange}
 use Rattle.rosa_box.specs.declared.state.BoxState.{BoxState}

@@ -149,8 +149,8 @@ impl Session {
         ensures state { self.new.state ≡ self.old.state }
         ensures start { self.new.start ≡ self.old.start }
     {
+        self.hang_up();
         self.has_taken = false;
-        self.is_open = false;
         self.reply = None;
         self.count = 0;
         self.sent = Items::new(self.alloc);

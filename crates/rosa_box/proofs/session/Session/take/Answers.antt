@@ -1,4 +1,4 @@
-use Rattle.std.proofs.Common.{ap, sym, subst, ◌≡◌, ◌∙◌, IfSome, true≢false}
+use Rattle.std.proofs.Common.{ap, sym, subst, ◌∙◌, IfSome, true≢false}
 use Rattle.rosa_box.specs.Answering.{HasAnswered}
 use Rattle.rosa_box.specs.Sessions.{SessionView, Stands, first_state}
 use Rattle.rosa_box.proofs.Standing.{first_answered, kept_answered, within_answered, within_moved, take_stands, on_ok}
