@@ -1,4 +1,4 @@
-use crate::replies::described;
+use crate::replies::words;
 use crate::requests::{empty_box, post_of};
 use case_lines::{bytes_of, cut, push_all, push_number};
 use field_io::Stage;
@@ -28,7 +28,7 @@ fn stage_word(stage: Stage) -> &'static str {
 
 fn got_words(alloc: Global, got: &Got) -> Result<String, NoMemory> {
     match got {
-        Got::Reply(bytes) => described(alloc, bytes.bytes()),
+        Got::Reply(bytes) => words(alloc, bytes.bytes()),
         Got::Fault(stage) => {
             let mut out = String::from_str(alloc, "fault ")?;
             out.push_str(stage_word(*stage))?;

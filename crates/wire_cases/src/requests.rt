@@ -1,4 +1,4 @@
-use crate::replies::described;
+use crate::replies::words;
 use case_lines::{bytes_of, cut, push_number};
 use field_text::{Blob, Items, NoMemory, Text};
 use http_wire::Address;
@@ -40,8 +40,8 @@ fn request_of(alloc: Global, case: &str) -> Result<Blob, NoMemory> {
 fn answer(alloc: Global, state: &mut BoxState, case: &str) -> Result<String, NoMemory> {
     let request = request_of(alloc, case)?;
     let reply = serve(alloc, state, request.bytes())?;
-    let mut out = described(alloc, reply.bytes())?;
-    out.push_str(" kept ")?;
+    let mut out = words(alloc, reply.bytes())?;
+    out.push_str("; kept ")?;
     push_number(&mut out, state.kept.len() as u64)?;
     Ok(out)
 }
