@@ -38,6 +38,16 @@ fn print_exchanges(rt: &HostRuntime) -> io::Result<()> {
     Ok(())
 }
 
+fn print_posts(rt: &HostRuntime) -> io::Result<()> {
+    let text = fs::read_to_string(rt, "posts")?;
+    let cases = cases(rt.alloc(), text.as_str())?;
+    for (number, case) in cases.iter().enumerate() {
+        let answer = made(requests::answer_post(rt.alloc(), case))?;
+        println!(rt; "posts {number}: {answer}")?;
+    }
+    Ok(())
+}
+
 // The requests come to one server, one after another.
 fn print_requests(rt: &HostRuntime) -> io::Result<()> {
     let text = fs::read_to_string(rt, "requests")?;
@@ -51,6 +61,7 @@ fn print_requests(rt: &HostRuntime) -> io::Result<()> {
 
 fn main(rt: HostRuntime) -> io::Result<()> {
     print_replies(&rt)?;
+    print_posts(&rt)?;
     print_exchanges(&rt)?;
     print_requests(&rt)
 }

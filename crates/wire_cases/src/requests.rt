@@ -1,10 +1,11 @@
 use crate::replies::words;
 use case_lines::{bytes_of, cut, push_number};
 use field_text::{Blob, Items, NoMemory, Text};
+use http_request::read_request;
 use http_wire::Address;
 use rosa_box::{BoxState, serve};
 use std::alloc::Global;
-use submission_wire::post_text;
+use submission_wire::{post_text, read_submission};
 
 fn text(alloc: Global, text: &str) -> Result<Text, NoMemory> {
     Ok(Text::from_string(String::from_str(alloc, text)?))
@@ -27,6 +28,28 @@ pub fn post_of(alloc: Global, document: Vec<u8>) -> Result<Blob, NoMemory> {
         target: text(alloc, "")?,
     };
     post_text(alloc, &base, 0, &Blob::from_vec(document))
+}
+
+// The document that bytes submit, as a request.
+fn submitted(alloc: Global, bytes: &[u8]) -> Result<Option<Blob>, NoMemory> {
+    match read_request(alloc, bytes)? {
+        Some(request) => read_submission(alloc, &request),
+        None => Ok(None),
+    }
+}
+
+/// Whether the document of a case is submitted by the request behind it, and read back out of it.
+pub fn answer_post(alloc: Global, case: &str) -> Result<&'static str, NoMemory> {
+    let (document, request) = cut(case);
+    let request = bytes_of(alloc, request)?;
+    let written = post_of(alloc, bytes_of(alloc, document)?)?;
+    if written.bytes() != request.as_slice() {
+        return Ok("written otherwise");
+    }
+    match submitted(alloc, request.as_slice())? {
+        Some(found) if found.bytes() == bytes_of(alloc, document)?.as_slice() => Ok("read back"),
+        Some(_) | None => Ok("not read back"),
+    }
 }
 
 // A case submits the document behind `submit`, or is a request as it stands.
