@@ -12,8 +12,8 @@ use std::alloc::{AllocError, Global};
 use std::{fs, io};
 
 // What was made, or that memory ran out.
-fn made<T>(result: Result<T, NoMemory>) -> Result<T, AllocError> {
-    match result {
+fn made<T>(answer: Result<T, NoMemory>) -> Result<T, AllocError> {
+    match answer {
         Ok(value) => Ok(value),
         Err(NoMemory) => Err(AllocError),
     }
