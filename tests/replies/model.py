@@ -1,5 +1,7 @@
 """What replies are by the rules of docs/FORMATS.md, in plain Python: a second reading of them that shares nothing with the
-crates. `python3 model.py cases.txt` prints expected.txt. A program over http_reply that prints the same lines is still to come."""
+crates. `python3 model.py ../../crates/wire_cases/data/replies` prints the lines of replies that the program wire_cases must
+print."""
+import re
 import sys
 
 TOKEN = set(b"!#$%&'*+-.^_`|~0123456789ABCDEFGHIJKLMNOPQRSTUVWXYZabcdefghijklmnopqrstuvwxyz")
@@ -159,18 +161,29 @@ def reply(data):
     if content == "bad":
         return "bad", status, True, None
     if content == "short":
-        return ("long" if len(data) >= KEPT else "short"), status, False, None
+        return ("too long" if len(data) >= KEPT else "short"), status, False, None
     return "whole", status, ends, content
 
 
+SHORT = {"n": "\n", "r": "\r", "t": "\t", "\\": "\\", ".": ""}
+ESCAPE = re.compile(r"\\(?:x(..)|\{([0-9]+):(.)\}|(.))")
+
+
 def unescape(text):
-    return text.encode("latin-1").decode("unicode_escape").encode("latin-1")
+    """The bytes of a case: a short escape, a byte by its digits, or one byte so many times."""
+    def meant(found):
+        digits, times, byte, short = found.groups()
+        if digits:
+            return chr(int(digits, 16))
+        return byte * int(times) if times else SHORT[short]
+    return ESCAPE.sub(meant, text).encode("latin-1")
 
 
 def describe(name, data):
     kind, status, framed, content = reply(data)
     size = "-" if content is None else str(len(content))
-    yield f"{name}: {kind} {status} {'framed' if framed else 'open'} body {size}"
+    taken = " accepted" if status in (201, 202) else ""
+    yield f"{name}: {kind} {status} {'framed' if framed else 'open'}{taken} body {size}"
     if len(data) < KEPT // 2:
         last, steps, final = None, [], "open"
         for at in range(len(data) + 1):
@@ -185,10 +198,9 @@ def describe(name, data):
 
 def main(path):
     for line in open(path, encoding="latin-1").read().split("\n"):
-        if line and not line.startswith("#"):
-            name, pad, text = line.split(" ", 2)
-            data = unescape(text) + b"x" * int(pad)
-            for out in describe(name, data):
+        if line and not line.startswith("// "):
+            name, text = line.split(" | ")
+            for out in describe(name, unescape(text)):
                 print(out)
 
 

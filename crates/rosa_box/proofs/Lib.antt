@@ -1,0 +1,5 @@
+mod Asking
+mod Answered
+mod Later
+mod Counting
+mod Standing

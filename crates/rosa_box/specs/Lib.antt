@@ -1,0 +1,11 @@
+pub mod Answers
+pub mod Asked
+pub mod Kept
+pub mod Served
+pub mod Laws
+pub mod Carried
+pub mod Sessions
+pub mod Answering
+pub mod Inside
+pub mod Dialing
+pub mod Listed
