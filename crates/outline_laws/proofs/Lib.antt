@@ -1,0 +1,10 @@
+pub mod Finding
+pub mod Folding
+pub mod Binding
+pub mod Tabling
+pub mod Primaries
+pub mod Models
+pub mod Asking
+pub mod Drafting
+pub mod Entities
+pub mod Forms
