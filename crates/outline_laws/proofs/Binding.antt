@@ -110,8 +110,8 @@ module _ (scope : Scope) (before : List ModelPart) (bind : Bind) (d : Draft) (h 
             (bound bind said (find_new (is_bind_of path) before (part.Bind bind) (subst (λ t. find (is_bind_of t) before ≡ None) same none) alike) by_it))
         by false alike =
             let other : n ≢ m = λ e. (
-              let same : path ≡ bind.nodeset = one_path scope.slots path bind.nodeset m (at ∙ ap (λ (k : ℕ). Some k) e) is in
-              let e2 : true ≡ false = sym (bytes_alike bind.nodeset) ∙ ap (bytes_eq bind.nodeset) (sym same) ∙ alike in absurd (cc (e2))
+            let same : path ≡ bind.nodeset = one_path scope.slots path bind.nodeset m (at ∙ ap (λ (k : ℕ). Some k) e) is in
+            let e2 : true ≡ false = sym (bytes_alike bind.nodeset) ∙ ap (bytes_eq bind.nodeset) (sym same) ∙ alike in absurd (cc (e2))
             ) in
             subst (BindsSay scope (before ++ part.Bind bind ∷ []) path) (sym (get_or-set_other d.bounds m n (Some said) None other))
             (say_on scope before (part.Bind bind) path (slice_index_or d.bounds n None) (λ none. alike) (h.say path n at))

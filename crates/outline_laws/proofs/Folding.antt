@@ -39,7 +39,6 @@ module _ {A S : Type 0} (keeps : List A → S → Type 0) (cause : List A → A 
       (ends : (s : S) → fold s [] ≡ Ok s)
       (goes : (s : S) (item : A) (items : List A) → fold s (item ∷ items) ≡ step s item >>= λ next. fold next items)
       (tracks : (before : List A) (s : S) (item : A) → keeps before s → Tracked before item (step s item)) where
-
     pub folds : (before : List A) (s : S) (items : List A) → keeps before s → Folded before items (fold s items)
     folds before s [] kept = subst (Folded before []) (sym (ends s)) (refl, subst (λ xs. keeps xs s) (sym (append-nil before)) kept)
     folds before s (item ∷ items) kept =
@@ -48,6 +47,7 @@ module _ {A S : Type 0} (keeps : List A → S → Type 0) (cause : List A → A 
         more : (r : Result S FormRefused) → cause before item ≡ None → Folded (before ++ item ∷ []) items r → Folded before (item ∷ items) r
         more (Ok last) none h = (first_none (cause before item) (causes cause (before ++ item ∷ []) items) none ∙ h.0, subst (λ xs. keeps xs last) (append_assoc before (item ∷ []) items) h.1)
         more (Err why) none h = first_none (cause before item) (causes cause (before ++ item ∷ []) items) none ∙ h
+
         on : ((next : S) → keeps (before ++ item ∷ []) next → Folded (before ++ item ∷ []) items (fold next items))
             → (r : Result S FormRefused) → Tracked before item r → Folded before (item ∷ items) (r >>= λ next. fold next items)
         on further (Ok next) t = more (fold next items) t.0 (further next t.1)

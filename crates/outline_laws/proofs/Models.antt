@@ -59,6 +59,7 @@ module _ (scope : Scope) (answers : List (Option Asked)) (primary : List Primary
     where
       tables_here : AreTables (before ++ part.Bind bind ∷ []) d.inner d.outer
       tables_here = tables_on before (part.Bind bind) d.inner d.outer (λ id none. refl) h.tables
+
       by : (r : Result Draft FormRefused) → BindStep scope before bind d r → Step (part.Bind bind) r
       by (Ok _) (kept none bound) = (none, record { binds = bound; tables = tables_here; asked = h.asked })
       by (Ok _) (set bounds none bound) = (none, record { binds = bound; tables = tables_here; asked = h.asked })
@@ -69,6 +70,7 @@ module _ (scope : Scope) (answers : List (Option Asked)) (primary : List Primary
     where
       binds_here : AreBound scope (before ++ part.Table t ∷ []) d.bounds
       binds_here = bound_on scope before (part.Table t) d.bounds (λ path n is none. refl) h.binds
+
       by : (r : Result Draft FormRefused) → TableStep before t d r → Step (part.Table t) r
       by (Ok _) (table.kept none tables) = (none, record { binds = binds_here; tables = tables; asked = h.asked })
       by (Ok _) (inner new none tables) = (none, record { binds = binds_here; tables = tables; asked = h.asked })
