@@ -86,8 +86,9 @@ fn push_cuts(alloc: Global, bytes: &[u8], out: &mut String) -> Result<(), NoMemo
 pub fn answer(alloc: Global, case: &str) -> Result<String, NoMemory> {
     let (name, text) = cut(case);
     let bytes = bytes_of(alloc, text)?;
-    let mut out = String::from_str(alloc, name)?;
-    push_all(&mut out, &[": ", words(alloc, bytes.as_slice())?.as_str()])?;
+    let words = words(alloc, bytes.as_slice())?;
+    let mut out = String::new(alloc);
+    push_all(&mut out, &[name, ": ", words.as_str()])?;
     push_body_length(alloc, bytes.as_slice(), &mut out)?;
     if bytes.len() < MOST_CUT {
         push_cuts(alloc, bytes.as_slice(), &mut out)?;

@@ -60,9 +60,13 @@ fn request_of(alloc: Global, case: &str) -> Result<Blob, NoMemory> {
     }
 }
 
+fn served(alloc: Global, state: &mut BoxState, request: &Blob) -> Result<Blob, NoMemory> {
+    serve(alloc, state, request.bytes())
+}
+
 fn answer(alloc: Global, state: &mut BoxState, case: &str) -> Result<String, NoMemory> {
     let request = request_of(alloc, case)?;
-    let reply = serve(alloc, state, request.bytes())?;
+    let reply = served(alloc, state, &request)?;
     let mut out = words(alloc, reply.bytes())?;
     out.push_str("; kept ")?;
     push_number(&mut out, state.kept.len() as u64)?;
