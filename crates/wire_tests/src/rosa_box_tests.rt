@@ -53,7 +53,10 @@ fn answers_are_these_bytes(rt: HostRuntime) -> Result<(), Fail> {
     let alloc = rt.alloc();
     let mut state = server(alloc)?;
     assert_eq!(rt; served(alloc, &mut state, POST)?.bytes(), TAKEN);
-    assert_eq!(rt; served(alloc, &mut state, b"GET / HTTP/1.1\r\n\r\n")?.bytes(), MISSING);
+    assert_eq!(rt;
+        served(alloc, &mut state, b"GET / HTTP/1.1\r\n\r\n")?.bytes(),
+        MISSING
+    );
     assert_eq!(rt; state.kept.len(), 1);
     Ok(())
 }
