@@ -1,5 +1,5 @@
-//! A server of OpenRosa in memory: what it answers to a request, and what it then keeps. Today it takes submissions; the
-//! forms and lists that it has are served to nobody yet.
+//! A server of OpenRosa in memory: what it answers to a request, and what it then keeps. Today it takes submissions;
+//! the forms and lists that it has are served to nobody yet.
 #![tactic(auto)]
 
 mod asked;

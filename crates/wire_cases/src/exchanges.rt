@@ -76,8 +76,8 @@ fn all_exchanged(
     Ok(out)
 }
 
-/// How the documents of a case are sent, one after another, by a dialer whose listed calls fail, and what the server then
-/// keeps.
+/// How the documents of a case are sent, one after another, by a dialer whose listed calls fail, and what the server
+/// then keeps.
 pub fn answer(alloc: Global, case: &str) -> Result<String, NoMemory> {
     let (numbers, documents) = cut(case);
     let mut dialer = dialer_of(alloc, numbers)?;

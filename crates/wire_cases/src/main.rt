@@ -1,5 +1,5 @@
-//! Asks the readers of replies, the server of OpenRosa and its dialer the cases of the data folder, and prints what they
-//! answer.
+//! Asks the readers of replies, the server of OpenRosa and its dialer the cases of the data folder, and prints what
+//! they answer.
 #![tactic(auto)]
 
 mod exchanges;

@@ -73,7 +73,8 @@ fn answer(alloc: Global, state: &mut BoxState, case: &str) -> Result<String, NoM
     Ok(out)
 }
 
-/// What a server that has nothing at first answers to requests, one after another, and how many documents it then keeps.
+/// What a server that has nothing at first answers to requests, one after another, and how many documents it then
+/// keeps.
 pub fn answers(alloc: Global, cases: &[&str]) -> Result<Vec<String>, NoMemory> {
     let mut state = empty_box(alloc)?;
     let mut lines = Vec::new(alloc);

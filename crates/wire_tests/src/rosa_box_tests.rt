@@ -73,13 +73,21 @@ fn fault(alloc: Global, dialer: &mut BoxDialer) -> Result<Option<Stage>, Fail> {
     }
 }
 
+fn kept(dialer: &BoxDialer) -> usize {
+    dialer.state().kept.len()
+}
+
+fn starved(dialer: &BoxDialer) -> u64 {
+    dialer.starved()
+}
+
 #[test]
 fn a_take_that_fails_has_asked_the_server(rt: HostRuntime) -> Result<(), Fail> {
     let alloc = rt.alloc();
     let mut dialer = dialer(alloc, &[3])?;
     assert_eq!(rt; fault(alloc, &mut dialer)?, Some(Stage::Take));
-    assert_eq!(rt; dialer.state().kept.len(), 1);
-    assert_eq!(rt; dialer.starved(), 0);
+    assert_eq!(rt; kept(&dialer), 1);
+    assert_eq!(rt; starved(&dialer), 0);
     Ok(())
 }
 
