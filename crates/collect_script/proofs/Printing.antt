@@ -33,6 +33,9 @@ follows_in start front more last low quiet = follows_grow start front more last 
 -- a refusal other than want of memory is the rules'
 told_by_rules : {T : Type 0} (why : Refused) (result : Result T Refused) → why ≢ refusals.NoMemory → Tells (rule_of why) result → result ≡ Err why
 told_by_rules refusals.BadValue result other tells = tells
+told_by_rules (refusals.Busy hand since) result other tells = tells
+told_by_rules (refusals.NotHolder holder) result other tells = tells
+told_by_rules refusals.NothingDue result other tells = tells
 told_by_rules refusals.NoForm result other tells = tells
 told_by_rules refusals.NoVersion result other tells = tells
 told_by_rules refusals.NoInstance result other tells = tells
@@ -48,6 +51,8 @@ told_by_rules (refusals.FormRefused why) result other tells = tells
 told_by_rules (refusals.NotFinal why) result other tells = tells
 told_by_rules (refusals.OtherBytes kept new) result other tells = tells
 told_by_rules (refusals.Limit which number) result other tells = tells
+told_by_rules refusals.NotInFlight result other tells = tells
+told_by_rules (refusals.InFlight number) result other tells = tells
 told_by_rules refusals.NoMemory result other tells = absurd (other refl)
 told_by_rules refusals.NotBuilt result other tells = tells
 

@@ -6,7 +6,7 @@ use Rattle.entity_lists.specs.declared.entities.Prop.{Prop}
 use Rattle.kept_forms.specs.declared.lines.FieldLine.{FieldLine}
 use Rattle.device_rules.specs.declared.answer.Answer.{Answer}
 use Rattle.device_rules.specs.declared.answer.Answer.TheVariants.{Bulk, Counts, Doc, Done, Entities, EntryNow}
-use Rattle.device_rules.specs.declared.answer.Answer.TheVariants.{Forms, Instances, Number, Settings}
+use Rattle.device_rules.specs.declared.answer.Answer.TheVariants.{Forms, Instances, NextSend, Number, Settings}
 use Rattle.device_rules.specs.declared.answer.EntryView.{EntryView}
 use Rattle.device_rules.specs.declared.answer.FormLine.{FormLine}
 use Rattle.device_rules.specs.declared.answer.InstanceLine.{InstanceLine}
@@ -84,4 +84,5 @@ answer_rows (EntryNow entry) = entry_rows entry
 answer_rows (Bulk counts) = []
 answer_rows (Doc bytes) = []
 answer_rows (Entities rows) = flat_map entity_row rows
+answer_rows (NextSend send) = []
 answer_rows (Counts counts) = []

@@ -1,8 +1,8 @@
 -- The lines that answer the lines of a script. The first begins with its position, and each ends with a line feed.
-use Rattle.std.specs.Prelude.{ℕ, List, ◌++◌, length, codes, Option, Some, None}
+use Rattle.std.specs.Prelude.{ℕ, List, [], ◌++◌, length, codes, Option, Some, None}
 use Rattle.device_rules.specs.declared.answer.Answer.{Answer}
 use Rattle.device_rules.specs.declared.answer.Answer.TheVariants.{Bulk, Counts as Counted, Doc, Done, Entities}
-use Rattle.device_rules.specs.declared.answer.Answer.TheVariants.{EntryNow, Forms, Instances, Number, Settings}
+use Rattle.device_rules.specs.declared.answer.Answer.TheVariants.{EntryNow, Forms, Instances, NextSend, Number, Settings}
 use Rattle.device_rules.specs.declared.answer.Counts.{Counts}
 use Rattle.device_rules.specs.declared.answer.EntryView.{EntryView}
 use Rattle.device_rules.specs.declared.answer.Finalized.{Finalized}
@@ -63,6 +63,7 @@ answer_text shape (EntryNow entry) = entry_head entry
 answer_text shape (Bulk counts) = bulk_text counts
 answer_text shape (Doc bytes) = codes "doc" ++ spaced_text bytes
 answer_text shape (Entities rows) = list_head shape (length rows)
+answer_text shape (NextSend send) = []
 answer_text shape (Counted counts) = counts_text counts
 
 abbrev pub printed_answer : ℕ → Shape → Answer → List ℕ

@@ -9,5 +9,5 @@ pub mod Settings
 pub mod Pieces
 pub mod AnswerRows
 pub mod Answers
-pub mod Refusals
 pub mod Log
+pub mod Refusals

@@ -1,5 +1,5 @@
--- The line of a refusal: its number and its words.
-use Rattle.std.specs.Prelude.{ℕ, List, ◌++◌, codes}
+-- The line of a refusal: its number and its words; that of a lock which is held names the holder.
+use Rattle.std.specs.Prelude.{ℕ, List, [], ◌++◌, codes}
 use Rattle.finalizer.specs.declared.finals.NotFinal.{NotFinal}
 use Rattle.finalizer.specs.declared.finals.NotFinal.TheVariants as finals
 use Rattle.form_read.specs.declared.refusal.FormRefused.{FormRefused}
@@ -12,6 +12,7 @@ use Rattle.device_rules.specs.declared.refused.Which.{Which}
 use Rattle.device_rules.specs.declared.refused.Which.TheVariants.{Forms, Instances, Lists, Rows, Versions, Counters}
 use Rattle.device_rules.specs.Refused.{refused_number}
 use Rattle.collect_text.specs.Lines.{line_at}
+use Rattle.collect_text.specs.Log.{hand_word}
 use Rattle.collect_text.specs.Pieces.{spaced_number, spaced_text, spaced_word, status_word}
 
 abbrev pub limit_word : Which → List ℕ
@@ -57,6 +58,10 @@ form_refused_number forms.NoMemory = 12
 
 abbrev pub refusal_words : Refused → List ℕ
 refusal_words refusals.BadValue = codes "value"
+refusal_words (refusals.Busy hand since) =
+    codes "busy" ++ spaced_word (hand_word hand) ++ spaced_word (codes "since") ++ spaced_number since
+refusal_words (refusals.NotHolder holder) = codes "holder"
+refusal_words refusals.NothingDue = codes "due"
 refusal_words refusals.NoForm = codes "form"
 refusal_words refusals.NoVersion = codes "version"
 refusal_words refusals.NoInstance = codes "instance"
@@ -72,12 +77,22 @@ refusal_words (refusals.NotFinal why) = not_final_words why
 refusal_words (refusals.FormRefused why) = codes "form-refused" ++ spaced_number (form_refused_number why)
 refusal_words (refusals.OtherBytes kept new) = codes "other" ++ spaced_text kept ++ spaced_text new
 refusal_words (refusals.Limit which number) = codes "limit" ++ spaced_word (limit_word which) ++ spaced_number number
+refusal_words refusals.NotInFlight = codes "not-in-flight"
+refusal_words (refusals.InFlight number) = codes "in-flight" ++ spaced_number number
 refusal_words refusals.NoMemory = codes "memory"
 refusal_words refusals.NotBuilt = codes "not-built"
 
--- the number of a refusal and its words, behind the position
+abbrev pub numbered : Refused → List ℕ
+numbered why = codes "refused" ++ spaced_number (refused_number why) ++ codes " "
+
+-- what stands before the words of a refusal: its number, but where a lock is held
+abbrev pub refusal_start : Refused → List ℕ
+refusal_start (refusals.Busy hand since) = []
+refusal_start why = numbered why
+
+-- what is told of a refusal, behind the position
 abbrev pub refused_text : Refused → List ℕ
-refused_text why = codes "refused" ++ spaced_number (refused_number why) ++ spaced_word (refusal_words why)
+refused_text why = refusal_start why ++ refusal_words why
 
 abbrev pub printed_refused : ℕ → Refused → List ℕ
 printed_refused position why = line_at position (refused_text why)

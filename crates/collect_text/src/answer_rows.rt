@@ -219,6 +219,7 @@ pub(crate) fn push_answer_rows(
         | Answer::Bulk(_)
         | Answer::Settings(_)
         | Answer::Doc(_)
+        | Answer::NextSend(_)
         | Answer::Counts(_) => Ok(()),
         Answer::Entities(rows) => push_entity_rows(alloc, rows.as_slice(), out),
         Answer::Forms(forms) => push_form_rows(forms.as_slice(), out),

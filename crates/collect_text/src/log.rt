@@ -6,7 +6,7 @@ use entry_form::{Command, Entry, Hand};
 use field_text::NoMemory;
 use std::alloc::{AllocError, Global};
 
-fn hand_word(hand: Hand) -> &'static str
+pub(crate) fn hand_word(hand: Hand) -> &'static str
     ensures { result.now ≡ hand_word hand }
 {
     match hand {

@@ -134,6 +134,8 @@ fn push_answer_text(
         Answer::Bulk(counts) => push_bulk_text(alloc, counts, out),
         Answer::Doc(doc) => push_doc_text(doc, out),
         Answer::Entities(rows) => push_list_head(alloc, shape, rows.len() as u64, out),
+        // No line asks for it.
+        Answer::NextSend(_) => Ok(()),
         Answer::Counts(counts) => push_counts_text(alloc, counts, out),
     }
 }

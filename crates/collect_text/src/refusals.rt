@@ -2,13 +2,15 @@
 ghost use Rattle.std.specs.Prelude.{◌≡◌, ◌≢◌, ◌++◌, IfOk, OnOk, OnErr};
 ghost use Rattle.collect_text.specs.Pieces.{spaced_number, spaced_text, spaced_word};
 ghost use Rattle.collect_text.specs.Refusals.{answer_word, form_refused_number, limit_word, not_final_words, printed_refused};
-ghost use Rattle.collect_text.specs.Refusals.{refusal_words, refused_text};
+ghost use Rattle.collect_text.specs.Refusals.{numbered, refusal_start, refusal_words, refused_text};
 
+use crate::log::hand_word;
 use crate::pieces::{
     line_at, push_numbered, push_spaced_number, push_spaced_text, push_spaced_word, push_word,
     status_word,
 };
 use device_rules::{Refused, Which};
+use entry_form::Hand;
 use field_text::{NoMemory, Text};
 use finalizer::NotFinal;
 use form_read::FormRefused;
@@ -102,11 +104,22 @@ fn push_limit(alloc: Global, which: Which, number: u64, out: &mut Vec<u8>) -> Re
     push_spaced_number(alloc, number, out)
 }
 
+fn push_busy(alloc: Global, hand: Hand, since: u64, out: &mut Vec<u8>) -> Result<(), NoMemory>
+    ensures { OnOk result (out.new.items ≡ out.old.items ++ refusal_words (Refused.Busy hand since)) }
+{
+    push_two_words("busy", hand_word(hand), out)?;
+    push_spaced_word("since", out)?;
+    push_spaced_number(alloc, since, out)
+}
+
 fn push_refusal_words(alloc: Global, why: &Refused, out: &mut Vec<u8>) -> Result<(), NoMemory>
     ensures { OnOk result (out.new.items ≡ out.old.items ++ refusal_words why.now) }
 {
     match why {
         Refused::BadValue => push_word("value", out),
+        Refused::Busy { hand, since } => push_busy(alloc, *hand, *since, out),
+        Refused::NotHolder { .. } => push_word("holder", out),
+        Refused::NothingDue => push_word("due", out),
         Refused::NoForm => push_word("form", out),
         Refused::NoVersion => push_word("version", out),
         Refused::NoInstance => push_word("instance", out),
@@ -127,8 +140,27 @@ fn push_refusal_words(alloc: Global, why: &Refused, out: &mut Vec<u8>) -> Result
         ),
         Refused::OtherBytes { kept, new } => push_other(kept, new, out),
         Refused::Limit { which, number } => push_limit(alloc, *which, *number, out),
+        Refused::NotInFlight => push_word("not-in-flight", out),
+        Refused::InFlight { number } => push_numbered(alloc, "in-flight", *number, out),
         Refused::NoMemory => push_word("memory", out),
         Refused::NotBuilt => push_word("not-built", out),
+    }
+}
+
+fn push_numbered_start(alloc: Global, why: &Refused, out: &mut Vec<u8>) -> Result<(), NoMemory>
+    ensures { OnOk result (out.new.items ≡ out.old.items ++ numbered why.now) }
+{
+    push_numbered(alloc, "refused", why.number(), out)?;
+    Ok(out.push(b' ')?)
+}
+
+// What stands before the words of a refusal: its number, but where a lock is held.
+fn push_refusal_start(alloc: Global, why: &Refused, out: &mut Vec<u8>) -> Result<(), NoMemory>
+    ensures { OnOk result (out.new.items ≡ out.old.items ++ refusal_start why.now) }
+{
+    match why {
+        Refused::Busy { .. } => Ok(()),
+        why => push_numbered_start(alloc, why, out),
     }
 }
 
@@ -136,8 +168,7 @@ fn refused_line(alloc: Global, position: u64, why: &Refused) -> Result<Vec<u8>, 
     ensures { IfOk result (λ line. line.items ≡ printed_refused position why.now) }
 {
     let mut text = Vec::new(alloc);
-    push_numbered(alloc, "refused", why.number(), &mut text)?;
-    text.push(b' ')?;
+    push_refusal_start(alloc, why, &mut text)?;
     push_refusal_words(alloc, why, &mut text)?;
     line_at(alloc, position, text.as_slice())
 }

@@ -1,4 +1,5 @@
 pub mod Causes
+pub mod DefaultServer
 pub mod Headlines
 pub mod Logs
 pub mod Over

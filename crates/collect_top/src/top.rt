@@ -1,6 +1,7 @@
 ghost use Rattle.std.specs.Prelude.{◌≡◌, true, List, Option, ℕ};
 ghost use Rattle.collect_script.specs.Ends.{streams};
 ghost use Rattle.device_laws.specs.DrawnIds.{KeepsIdsApart};
+ghost use Rattle.device_laws.specs.Sends.{KeepsSends};
 ghost use Rattle.device_laws.specs.Finals.{KeepsFinals};
 ghost use Rattle.device_laws.specs.Soundness.{KeepsUsedForms};
 ghost use Rattle.device_rules.specs.Trail.{entries_of};
@@ -107,6 +108,7 @@ pub fn collect_alone<So: Source, Si: Sink, D: Disk, N: Dialer, C: Clock>(
     ensures used_forms { KeepsUsedForms (entries_of result.trail.entries) }
     ensures finals { KeepsFinals (entries_of result.trail.entries) }
     ensures ids { KeepsIdsApart (entries_of result.trail.entries) }
+    ensures sends { KeepsSends (entries_of result.trail.entries) }
     ensures transmissions { result.hands ≡ hands }
 {
     let Some(work) = work_of(words) else {

@@ -19,10 +19,11 @@ use Rattle.device_rules.specs.declared.told.SubmitFault.TheVariants as submittin
 use Rattle.device_rules.specs.declared.told.Told.{Told}
 use Rattle.device_rules.specs.Answers.{answer_to}
 use Rattle.device_rules.specs.Caller.{CallerView, of_hand, AddsOthers, Reaches, LooksOn, Calls, Looks, Dues, Closes, raised}
+use Rattle.device_rules.specs.Due.{due_for}
 use Rattle.device_rules.specs.Refused.{rule_of}
 use Rattle.device_state.specs.State.{initial}
 use Rattle.device_rules.specs.Trail.{entries_of, replay, IsLegal}
-use Rattle.device_rules.proofs.Replays.{entries-push, legal_front}
+use Rattle.device_rules.proofs.Replays.{entries-push}
 use Rattle.device_core.specs.Caller.{risen, seen_of, refusals_after, Leads}
 use Rattle.device_core.specs.CallerLaws.{leads_same}
 use Rattle.device_core.specs.Crash.{AddsOnly, HasAtLeast}
@@ -84,10 +85,10 @@ module _ {D : Type 0} (disk_faults : D → ℕ) (before closings : ℕ) where
   looked device refusals query (Err submitting.DiskFault) ok err legal = absurd err
   looked device refusals query (Err (submitting.Failed count)) ok err legal = absurd err
 
-  pub dues : (device : DeviceView D) (refusals : ℕ) → IsLegal initial (entries_of device.entries ++ option_to_list device.rest) → Dues (Seen device refusals) (Seen device refusals) 0
-  dues device refusals legal =
-      let front = legal_front initial (entries_of device.entries) (option_to_list device.rest) legal in
-      record { looks = looks_on device refusals; state = front.0; reached = front.1; due = refl }
+  pub dues : (device : DeviceView D) (refusals count : ℕ) → count ≡ due_for device.state Script → replay initial (entries_of device.entries) ≡ Some device.state
+      → Dues (Seen device refusals) (Seen device refusals) count
+  dues device refusals count is reached =
+      record { looks = looks_on device refusals; state = device.state; reached = reached; due = is }
 
 pub closes : {D : Type 0} (disk_faults : D → ℕ) (device : DeviceView D) (before refusals closings now : ℕ) → now ≡ raised closings → closings ≤ now
     → Closes (seen_of disk_faults device before refusals closings) (seen_of disk_faults device before refusals now) true

@@ -91,7 +91,7 @@ impl<D: Disk> Caller for DeviceCaller<D> {
     }
 
     fn due(&mut self) -> u64 {
-        0
+        self.device.due(Hand::Script)
     }
 
     // No other hand is left to wait for.

@@ -4,6 +4,7 @@ ghost use Rattle.entry_codec.specs.Spelling.{spelling};
 ghost use Rattle.device_journal.specs.Frames.{end_of, limit};
 ghost use Rattle.field_text.specs.Steps.{Tells};
 ghost use Rattle.device_rules.specs.Answers.{answer_to};
+ghost use Rattle.device_rules.specs.Due.{busy_of, due_for};
 ghost use Rattle.device_rules.specs.Opened.{is_opening};
 ghost use Rattle.device_rules.specs.Prepared.{Prepares, entry_of};
 ghost use Rattle.device_rules.specs.Refused.{rule_of};
@@ -20,7 +21,9 @@ use crate::append::{make_step, prepare_opening, spell_with_room};
 use crate::fault::open_fault;
 use crate::replay::recover;
 use device_journal::{AppendFault, Journal, OpenFault, open_journal};
-use device_rules::{Marked, Prepared, Query, Refused, SubmitFault, Told, Trail, ask, decide};
+use device_rules::{
+    Marked, Prepared, Query, Refused, SubmitFault, Told, Trail, ask, busy, decide, due,
+};
 use device_state::State;
 use disk_model::Disk;
 use entry_form::{Command, Entry, Hand, Opening};
@@ -242,6 +245,22 @@ impl<D: Disk> Device<D> {
             Ok(answer) => Ok(Told { position, answer }),
             Err(why) => Err(SubmitFault::Refused { position, why }),
         }
+    }
+
+    /// How much is due for a hand on the device's state. It takes no memory.
+    pub fn due(&self, hand: Hand) -> u64
+        ensures due { result ≡ due_for self.now.state hand }
+        ensures legal { replay initial (entries_of self.now.entries) ≡ Some self.now.state }
+    {
+        due(&self.state, hand)
+    }
+
+    /// What is due for the workers on the device's state, and how many locks are held. It takes no memory.
+    pub fn busy(&self) -> u64
+        ensures busy { result ≡ busy_of self.now.state }
+        ensures legal { replay initial (entries_of self.now.entries) ≡ Some self.now.state }
+    {
+        busy(&self.state)
     }
 
     /// The disk's count of faults.

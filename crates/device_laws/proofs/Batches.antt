@@ -3,7 +3,7 @@ use Rattle.std.proofs.Common.{◌≡◌, ℕ, List, [], ◌∷◌, Bool, true, f
 use Rattle.std.proofs.Common.{sym, ◌∙◌, ap, subst}
 use Rattle.std.specs.Prelude.{◌||◌, not}
 use Rattle.std.specs.List.{AllByRecursion, filter, fold, list_any}
-use Rattle.std.specs.Option.{IfSome, option_map_or}
+use Rattle.std.specs.Option.{IfSome}
 use Rattle.std.proofs.lemmas.Bool.{and_parts}
 use Rattle.field_text.proofs.StepLemmas.{then_ok}
 use Rattle.device_rules.specs.declared.finalize_all.Tried.{Tried}
@@ -18,11 +18,12 @@ use Rattle.device_state.specs.declared.state.State.{State}
 use Rattle.device_state.specs.Numbered.{each_replaced}
 use Rattle.instance_store.specs.declared.records.InstanceRec.{InstanceRec}
 use Rattle.savepoints.specs.Savepoints.{base_on, is_at}
-use Rattle.device_laws.specs.Finals.{AreOrderly, HasRightBase, IsOrderly, IsRightBase}
+use Rattle.device_laws.specs.Finals.{HasRightBase, IsOrderly, IsQueued, IsRightBase, IsSameFinal}
 use Rattle.device_laws.proofs.Finals.{each_with}
 use Rattle.device_laws.proofs.Lists.{all_elements, all_joined, all_then, any_then}
 use Rattle.device_laws.proofs.Numbers.{each_below, each_rise}
-use Rattle.device_laws.proofs.Pins.{HasDraft, IsDraftOf, LeavesFinals, each_pinned, leaves}
+use Rattle.device_laws.proofs.Pins.{HasDraft, LeavesFinals, each_held, leaves, not_both, queued_no_draft}
+use Rattle.device_laws.proofs.Pins.{sends_on}
 use Rattle.device_laws.proofs.Starts.{same_okay}
 
 -- ---- which numbers
@@ -67,7 +68,7 @@ module _ (state : State) (P : ℕ → Type 0) where
 
 -- ---- drafts
 
-changed_drafts : (state : State)
+pub changed_drafts : (state : State)
     → AllByRecursion (λ (i : InstanceRec). HasDraft state.instances.items i.number) (batch_of state).changed
 changed_drafts state = all_changed_have state (HasDraft state.instances.items)
     (all_elements state.instances.items (λ i among tried. any_then state.instances.items
@@ -108,9 +109,13 @@ each_base items kept (Some entry) free base = each_with (IsRightBase entry.base)
 pub batch_leaves : (state : State) → IsOrderly state → LeavesFinals state (finalized_all state (batch_of state))
 batch_leaves state orderly = leaves state (finalized_all state (batch_of state))
     (record {
-      rise = each_rise (batch_of state).changed state.instances.items orderly.rise;
-      below = each_below (batch_of state).changed state.instances.items state.counters.next_instance orderly.below;
-      base = each_base (batch_of state).changed state.instances.items state.entry (changed_free state) orderly.base;
+      rise = each_rise (batch_of state).changed state.instances.items orderly.kept.rise;
+      below = each_below (batch_of state).changed state.instances.items state.counters.next_instance orderly.kept.below;
+      base = each_base (batch_of state).changed state.instances.items state.entry (changed_free state) orderly.kept.base;
     })
-    (λ i pinned. each_pinned i (batch_of state).changed state.instances.items state.counters.next_instance
-    (changed_drafts state) pinned)
+    (sends_on state.instances.items (each_replaced (batch_of state).changed state.instances.items)
+    state.counters.next_instance state.counters.next_instance state.flights.items
+    (λ number under. each_held number IsQueued queued_no_draft (batch_of state).changed state.instances.items
+    state.counters.next_instance (changed_drafts state) under) orderly.sends)
+    (λ i pinned. each_held i.number (IsSameFinal i) (not_both i) (batch_of state).changed state.instances.items
+    state.counters.next_instance (changed_drafts state) pinned)

@@ -1,16 +1,14 @@
 -- The ids of instances through each change of the list.
-use Rattle.std.proofs.Common.{◌≡◌, ◌≢◌, ℕ, ◌+◌, ◌<◌, ◌≤◌, ◌^◌, List, [], ◌∷◌, ◌++◌, Bool, true, false, Option, Some}
-use Rattle.std.proofs.Common.{None, Result, Ok, Err, refl, arith, sym, ◌∙◌, ap, subst}
-use Rattle.std.specs.Prelude.{codes, drop, nat_lt}
+use Rattle.std.proofs.Common.{◌≡◌, ◌≢◌, ℕ, ◌≤◌, List, ◌++◌, Option, Some}
+use Rattle.std.proofs.Common.{None, refl, arith, sym, ◌∙◌, ap, subst}
+use Rattle.std.specs.Prelude.{codes, drop}
 use Rattle.std.specs.List.{AllByRecursion}
 use Rattle.std.specs.Option.{IfSome}
-use Rattle.std.proofs.lemmas.Bool.Decides.{nat_tests}
 use Rattle.field_ids.specs.Draws.{IsInRange, NextDraw, drawn}
 use Rattle.field_ids.specs.Ids.{id_of, text_of_id}
 use Rattle.field_ids.proofs.IdLemmas.{same_draw}
-use Rattle.device_state.specs.declared.state.State.{State}
 use Rattle.instance_store.specs.declared.records.InstanceRec.{InstanceRec}
-use Rattle.device_laws.specs.DrawnIds.{AreApart, HasIdsApart, HasNoIdYet, IsDrawnFrom, IsOwned, IsOwner, OwnsId}
+use Rattle.device_laws.specs.DrawnIds.{AreApart, HasNoIdYet, IsDrawnFrom, IsOwned, IsOwner, OwnsId}
 use Rattle.device_laws.proofs.Lists.{all_then}
 
 -- ---- ids

@@ -9,7 +9,7 @@ use Rattle.field_ids.specs.Draws.{IsInRange, NextDraw, drawn}
 use Rattle.form_def.specs.declared.form.FormDef.{FormDef}
 use Rattle.kept_forms.specs.KeptForms.{definition_of, fits_form}
 use Rattle.entity_lists.specs.declared.entity_list.EntityList.{EntityList}
-use Rattle.entity_merge.specs.Actions.{acted as acted_on, acted_rows, draws_after}
+use Rattle.entity_merge.specs.Actions.{acted as acted_on, acted_rows}
 use Rattle.entity_merge.specs.declared.actions.Action.{Action}
 use Rattle.entity_merge.specs.declared.actions.ActionRefused.{ActionRefused}
 use Rattle.finalizer.proofs.DrawLemmas.{draws_on, instance_first}
@@ -20,7 +20,7 @@ use Rattle.finalizer.specs.declared.finals.NotFinal.TheVariants.{Required}
 use Rattle.finalizer.specs.Finals.{final_of as final_by}
 use Rattle.finalizer.specs.KeptFinals.{finalized_in, finalized_of}
 use Rattle.finalizer.specs.Laws.{DrawsOn, IsFirstDrawn}
-use Rattle.device_rules.specs.Acting.{acted_lists, changed_list, list_for, room_for}
+use Rattle.device_rules.specs.Acting.{acted_lists, list_for, room_for}
 use Rattle.device_rules.specs.declared.acting.Acted.{Acted}
 use Rattle.device_rules.specs.declared.finalize.Finished.{Finished}
 use Rattle.device_rules.specs.declared.refused.Refused.{Refused}

@@ -1,5 +1,5 @@
 -- Finalized instances stay as they are, over every legal history.
-use Rattle.std.proofs.Common.{◌≡◌, ℕ, ◌<◌, List, Bool, true, Some, Ok, ap, ◌∙◌}
+use Rattle.std.proofs.Common.{◌≡◌, ◌<◌, List, true, Some, Ok, ap, ◌∙◌}
 use Rattle.std.specs.List.{AllByRecursion}
 use Rattle.field_text.proofs.StepLemmas.{then_ok}
 use Rattle.device_rules.specs.declared.answer.Answer.{Answer}
@@ -11,7 +11,7 @@ use Rattle.device_state.specs.Purging.{purged}
 use Rattle.device_state.specs.State.{initial}
 use Rattle.entry_form.specs.declared.entry.Entry.{Entry}
 use Rattle.instance_store.specs.declared.records.InstanceRec.{InstanceRec}
-use Rattle.device_laws.specs.Finals.{IsOrderly, IsSameFinal, KeepsFinals, StaysFinal, numbers_of}
+use Rattle.device_laws.specs.Finals.{IsOrderly, IsSameFinal, KeepsFinals, StaysFinal}
 use Rattle.device_laws.proofs.Following.{came}
 use Rattle.device_laws.proofs.Found.{all_numbers, one_each}
 use Rattle.device_laws.proofs.Leaving.{entered_leaves}
@@ -20,12 +20,15 @@ use Rattle.device_laws.proofs.Pins.{IsPinnedIn, LeavesFinals, leaves}
 use Rattle.device_laws.proofs.Replays.{replay_keeps}
 
 pub initial_orderly : IsOrderly initial
-initial_orderly = record { rise = tt; below = tt; base = tt }
+initial_orderly = record {
+  kept = record { rise = tt; below = tt; base = tt };
+  sends = record { differ = tt; queued = tt };
+}
 
 -- ---- one entry
 
 purged_leaves : (state next : State) → LeavesFinals state next → LeavesFinals state (purged next)
-purged_leaves state next left = leaves state (purged next) left.orderly left.pins
+purged_leaves state next left = leaves state (purged next) left.orderly.kept left.orderly.sends left.pins
 
 step_leaves : (state next : State) (entry : Entry) (answer : Answer) → IsOrderly state
     → step state entry ≡ Ok (next, answer) → LeavesFinals state next
@@ -58,11 +61,11 @@ pinned_here : (state : State) (i : InstanceRec) → IsOrderly state → IsAmong 
     → is_finalized i ≡ true → IsPinnedIn state i
 pinned_here state i orderly among final = record {
   below = one_of (λ (k : InstanceRec). k.number < state.counters.next_instance) state.instances.items i among
-      (all_numbers (λ m. m < state.counters.next_instance) state.instances.items orderly.below);
-  same = all_then state.instances.items
+      (all_numbers (λ m. m < state.counters.next_instance) state.instances.items orderly.kept.below);
+  holds = all_then state.instances.items
       (λ (k : InstanceRec) (one : k.number ≡ i.number → k ≡ i) (is : k.number ≡ i.number).
       same_final i k final (one is))
-      (one_each state.instances.items i orderly.rise among);
+      (one_each state.instances.items i orderly.kept.rise among);
 }
 
 -- orderly, with this instance pinned
@@ -80,7 +83,7 @@ pub finals_stay : (entries : List Entry) (state next : State) → IsOrderly stat
     → AllByRecursion (StaysFinal next) state.instances.items
 finals_stay entries state next orderly reached = all_elements state.instances.items (λ i among final.
     (replay_keeps (KeepsOne i) (one_kept i) entries state next
-    (record { orderly = orderly; pinned = pinned_here state i orderly among final }) reached).pinned.same)
+    (record { orderly = orderly; pinned = pinned_here state i orderly among final }) reached).pinned.holds)
 
 -- ---- histories
 

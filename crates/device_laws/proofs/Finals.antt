@@ -1,6 +1,6 @@
 -- What finalizing leaves names a kept form, as what it began from did.
-use Rattle.std.proofs.Common.{◌≡◌, ℕ, List, [], ◌∷◌, Bool, true, false, cond, Option, Some, Result, Ok, Err, refl}
-use Rattle.std.proofs.Common.{sym, ap, subst}
+use Rattle.std.proofs.Common.{◌≡◌, List, [], ◌∷◌, Bool, true, false, cond, Result, Ok, Err, refl}
+use Rattle.std.proofs.Common.{ap, subst}
 use Rattle.std.specs.List.{AllByRecursion, filter, fold}
 use Rattle.std.specs.Option.{IfSome}
 use Rattle.field_text.proofs.StepLemmas.{then_ok}
@@ -12,6 +12,7 @@ use Rattle.device_rules.specs.declared.refused.Refused.TheVariants.{NoEntry}
 use Rattle.device_rules.specs.Finalize.{finalize, finalized_as, finish, kept_final}
 use Rattle.device_rules.specs.FinalizeAll.{Batch, after_one, as_invalid, batch_from, batch_of, draft_entry}
 use Rattle.device_rules.specs.FinalizeAll.{finalize_all, finalized_all, first_batch, is_tried, try_draft, with_tried}
+use Rattle.device_rules.specs.Holders.{free_for}
 use Rattle.device_rules.specs.SaveDraft.{instances_with, name_of}
 use Rattle.device_rules.specs.Start.{source_of}
 use Rattle.device_rules.specs.Tests.{not_full, open_entry}
@@ -22,6 +23,7 @@ use Rattle.device_state.specs.Numbered.{each_replaced, replaced_by}
 use Rattle.entity_lists.specs.declared.entity_list.EntityList.{EntityList}
 use Rattle.entry_form.specs.declared.command.Base.TheVariants as bases
 use Rattle.entry_form.specs.declared.command.How.TheVariants.{Fresh}
+use Rattle.entry_form.specs.declared.hand.Hand.{Hand}
 use Rattle.instance_store.specs.declared.records.InstanceRec.{InstanceRec}
 use Rattle.savepoints.specs.declared.keys.KeyBase.{KeyBase}
 use Rattle.savepoints.specs.declared.keys.KeyBase.TheVariants.{Blank, Draft, Edit}
@@ -110,11 +112,12 @@ each_with P [] kept all others = others
 each_with P (item ∷ items) kept (here, there) others =
     each_with P items (replaced_by item kept) there (all_replaced P item kept here others)
 
-pub finalize_all_keeps : (state : State) (x : State × Answer) → finalize_all state ≡ Ok x → IsSound state
-    → Follows state x.0
-finalize_all_keeps state x is sound =
+pub finalize_all_keeps : (state : State) (hand : Hand) (x : State × Answer) → finalize_all state hand ≡ Ok x
+    → IsSound state → Follows state x.0
+finalize_all_keeps state hand x is sound =
+    let nobody = then_ok (free_for hand state.locks.instances) _ x is in
     let left = finalized_all state (batch_of state) in
-    came (Follows state) left _ x (then_ok (not_full state) _ x is).2
+    came (Follows state) left _ x (then_ok (not_full state) _ x nobody.2).2
     (follows state left sound (follow_themselves state.forms.items)
     (each_with (HasInstanceForm state.forms.items) (batch_of state).changed state.instances.items
     (batch_named state sound state.instances.items (first_batch state) sound.instances tt) sound.instances)

@@ -1,6 +1,6 @@
 -- The instance that is found by its number, where numbers rise.
-use Rattle.std.proofs.Common.{◌≡◌, inl, inr, ℕ, ◌<◌, List, [], ◌∷◌, Bool, true, false, Option, Some, None, Ok, Err}
-use Rattle.std.proofs.Common.{refl, arith, sym, ◌∙◌, ap, subst}
+use Rattle.std.proofs.Common.{◌≡◌, inl, inr, ℕ, ◌<◌, List, [], ◌∷◌, Bool, true, false, Option, Some, None, Ok}
+use Rattle.std.proofs.Common.{refl, arith, sym, ◌∙◌, ap}
 use Rattle.std.specs.Prelude.{not, option_map, slice_get}
 use Rattle.std.specs.List.{AllByRecursion}
 use Rattle.std.specs.Option.{option_and_then}
@@ -10,7 +10,7 @@ use Rattle.std.proofs.lemmas.Option.{same_Some}
 use Rattle.device_rules.specs.declared.refused.Refused.{Refused}
 use Rattle.device_rules.specs.declared.refused.Refused.TheVariants.{WrongStatus}
 use Rattle.device_rules.specs.Start.{has_status, right_status, status_allows}
-use Rattle.device_rules.specs.Tests.{refused_if, Tested}
+use Rattle.device_rules.specs.Tests.{refused_if}
 use Rattle.device_state.specs.declared.state.State.{State}
 use Rattle.instance_store.proofs.Places.{place-Some}
 use Rattle.instance_store.specs.Instances.{has_number, place_of}
@@ -62,7 +62,7 @@ found_at kept number i at = found_in kept number i (place_of number kept) refl a
 
 -- ---- the status that a questionnaire's base must have
 
-allowed : (b : Bool) (why : Refused) (t : Unit {0}) → refused_if (not b) why ≡ Ok t → b ≡ true
+pub allowed : (b : Bool) (why : Refused) (t : Unit {0}) → refused_if (not b) why ≡ Ok t → b ≡ true
 allowed true why t is = refl
 allowed false why t is = absurd (cc is)
 

@@ -1,30 +1,33 @@
 -- Each entry leaves the ids of instances apart.
-use Rattle.std.proofs.Common.{◌≡◌, ℕ, ◌<◌, ◌^◌, List, Bool, true, false, Some, Ok, refl, arith, subst}
-use Rattle.std.specs.Prelude.{◌&&◌, is_some, not, nat_lt}
+use Rattle.std.proofs.Common.{◌≡◌, ℕ, ◌+◌, ◌<◌, ◌^◌, List, Bool, true, false, Ok, refl, arith, subst}
+use Rattle.std.specs.Prelude.{is_some, not, nat_lt}
 use Rattle.std.specs.List.{list_any}
-use Rattle.std.specs.Str.{bytes_eq}
 use Rattle.std.proofs.lemmas.Bool.{and_parts}
 use Rattle.std.proofs.lemmas.Bool.Decides.{nat_tests}
 use Rattle.field_text.proofs.StepLemmas.{then_ok}
 use Rattle.device_rules.specs.AutoSend.{auto_send}
 use Rattle.device_rules.specs.declared.answer.Answer.{Answer}
-use Rattle.device_rules.specs.declared.refused.Refused.{Refused}
-use Rattle.device_rules.specs.declared.refused.Refused.TheVariants.{BadValue, EntryThere, InUse, NoForm, NoInstance}
+use Rattle.device_rules.specs.declared.refused.Refused.TheVariants.{BadValue, NoForm}
 use Rattle.device_rules.specs.DropForm.{drop_form}
-use Rattle.device_rules.specs.DropInstance.{drop_instance, stands_on}
+use Rattle.device_rules.specs.DropInstance.{drop_instance}
 use Rattle.device_rules.specs.Fill.{fill, filled}
 use Rattle.device_rules.specs.Finalize.{finalize, finalized_as, finish, kept_final}
 use Rattle.device_rules.specs.FinalizeAll.{batch_of, finalize_all, finalized_all}
 use Rattle.device_rules.specs.Leave.{leave}
 use Rattle.device_rules.specs.Limits.{is_within_limits}
-use Rattle.device_rules.specs.Load.{load, load_by, put_form, read_form}
+use Rattle.device_rules.specs.Holders.{free_for}
+use Rattle.device_rules.specs.Load.{load, load_by, load_read, put_form, read_form}
 use Rattle.device_rules.specs.NotBuilt.{not_built}
-use Rattle.device_rules.specs.Opened.{default_server, is_opening, opened}
+use Rattle.device_rules.specs.Opened.{is_opening, opened}
+use Rattle.device_rules.specs.Release.{release}
 use Rattle.device_rules.specs.SaveDraft.{counters_after, draft_of, instances_with, name_of, save_draft, saved}
-use Rattle.device_rules.specs.Start.{begun, instance_of, key_of_source, opened_with, right_status, savepoint_met}
+use Rattle.device_rules.specs.SendBegun.{send_begun, sending}
+use Rattle.device_rules.specs.SendEnded.{ended_as, is_taken, send_ended, status_after}
+use Rattle.device_rules.specs.Start.{begun, opened_with}
 use Rattle.device_rules.specs.Start.{source_of, start}
 use Rattle.device_rules.specs.Step.{entered, obeyed, step}
-use Rattle.device_rules.specs.Tests.{found_or, not_full, open_entry, refused_if}
+use Rattle.device_rules.specs.TakeLock.{take_lock}
+use Rattle.device_rules.specs.Tests.{not_full, open_entry, refused_if}
 use Rattle.device_rules.specs.Tick.{tick}
 use Rattle.device_rules.specs.UpdateMode.{update_mode}
 use Rattle.device_state.specs.declared.state.Counters.{Counters}
@@ -36,23 +39,33 @@ use Rattle.entry_form.specs.declared.command.Base.{Base}
 use Rattle.entry_form.specs.declared.command.Command.{Command}
 use Rattle.entry_form.specs.declared.command.Command.TheVariants as commands
 use Rattle.entry_form.specs.declared.command.How.{How}
+use Rattle.entry_form.specs.declared.command.Outcome.{Outcome}
 use Rattle.entry_form.specs.declared.entry.Entry.{Entry}
 use Rattle.entry_form.specs.declared.entry.Entry.TheVariants.{Opened, Done}
 use Rattle.entry_form.specs.declared.entry.Opening.{Opening}
+use Rattle.entry_form.specs.declared.hand.Hand.{Hand}
+use Rattle.entry_form.specs.declared.hand.Lock.{Lock}
+use Rattle.entry_form.specs.declared.hand.Round.{Round}
+use Rattle.entry_form.specs.declared.hand.Round.TheVariants as rounds
 use Rattle.field_text.specs.declared.mode.Mode.{Mode}
 use Rattle.form_store.specs.declared.records.Check.{Check}
 use Rattle.form_store.specs.declared.records.Check.TheVariants.{Fresh, Same, OtherBytes, Full}
 use Rattle.form_store.specs.Forms.{check, is_shown}
+use Rattle.instance_store.specs.Instances.{with_status, with_tried}
 use Rattle.instance_store.specs.declared.records.InstanceRec.{InstanceRec}
 use Rattle.kept_forms.specs.KeptForms.{id_of, version_of}
 use Rattle.savepoints.specs.declared.keys.KeyBase.{KeyBase}
 use Rattle.savepoints.specs.declared.keys.KeyBase.TheVariants.{Blank, Draft, Edit}
-use Rattle.device_laws.specs.DrawnIds.{HasIdsApart}
+use Rattle.device_laws.specs.DrawnIds.{HasIdsApart, HasNoIdYet}
 use Rattle.device_laws.proofs.DrawnIds.{HoldsOn, LeavesIds, gone_leaves, leaves_itself, put_leaves}
 use Rattle.device_laws.proofs.FinalDraws.{finish_draws}
 use Rattle.device_laws.proofs.Following.{came}
+use Rattle.device_laws.proofs.Found.{allowed}
 use Rattle.device_laws.proofs.IdBatches.{batch_leaves_ids}
+use Rattle.device_laws.proofs.IdChanges.{changed_leaves}
+use Rattle.device_laws.proofs.Made.{beginning, dropping, ending, releasing, taking}
 use Rattle.device_laws.proofs.Rows.{all_added, all_dropped, all_replaced}
+use Rattle.wire_laws.specs.Bases.{base_in}
 
 -- the next state leaves the ids of this one apart
 pub record KeepsApart (state next : State) : Type 0 where
@@ -99,16 +112,22 @@ load_by_apart state bytes (Same place) x is apart = put_form_apart state bytes x
 load_by_apart state bytes (OtherBytes place) x is apart = absurd (cc is)
 load_by_apart state bytes Full x is apart = absurd (cc is)
 
-load_apart : (state : State) (bytes : List ℕ) (x : State × Answer) → load state bytes ≡ Ok x → HasIdsApart state
-    → KeepsApart state x.0
-load_apart state bytes x is apart =
+load_read_apart : (state : State) (bytes : List ℕ) (x : State × Answer) → load_read state bytes ≡ Ok x
+    → HasIdsApart state → KeepsApart state x.0
+load_read_apart state bytes x is apart =
     let form = then_ok (read_form bytes) _ x is in
     load_by_apart state form.0 (check (id_of form.0) (version_of form.0) form.0 state.forms.items) x form.2 apart
 
-drop_form_apart : (state : State) (id : List ℕ) (x : State × Answer) → drop_form state id ≡ Ok x → HasIdsApart state
-    → KeepsApart state x.0
-drop_form_apart state id x is apart =
-    let there = then_ok (refused_if (not (list_any (is_shown id) state.forms.items)) NoForm) _ x is in
+load_apart : (state : State) (hand : Hand) (bytes : List ℕ) (x : State × Answer) → load state hand bytes ≡ Ok x
+    → HasIdsApart state → KeepsApart state x.0
+load_apart state hand bytes x is apart =
+    load_read_apart state bytes x (then_ok (free_for hand state.locks.forms) _ x is).2 apart
+
+drop_form_apart : (state : State) (hand : Hand) (id : List ℕ) (x : State × Answer) → drop_form state hand id ≡ Ok x
+    → HasIdsApart state → KeepsApart state x.0
+drop_form_apart state hand id x is apart =
+    let nobody = then_ok (free_for hand state.locks.forms) _ x is in
+    let there = then_ok (refused_if (not (list_any (is_shown id) state.forms.items)) NoForm) _ x nobody.2 in
     came (KeepsApart state) _ _ x (then_ok (not_full state) _ x there.2).2
     (keeps state _ (as_they_were state apart))
 
@@ -136,10 +155,6 @@ start_apart state base how x is apart =
 
 -- ---- another number of the device
 
-not_refused : (b : Bool) (why : Refused) (t : Unit {0}) → refused_if (not b) why ≡ Ok t → b ≡ true
-not_refused true why t is = refl
-not_refused false why t is = absurd (cc is)
-
 small : (device : ℕ) → nat_lt device (2 ^ 48) ≡ true → device < 2 ^ 48
 small device is = grind (arith, nat_tests, is)
 
@@ -150,8 +165,8 @@ opened_apart state opening x is apart =
     came (KeepsApart state) _ _ x (then_ok (not_full state) _ x within.2).2
     (keeps state _ (gone_leaves state.instances.items state.instances.items state.counters.draws _ apart refl
     (λ P all. all) (record {
-      device = small opening.device (and_parts (nat_lt opening.device (2 ^ 48)) (bytes_eq opening.server default_server)
-          (not_refused (is_opening opening) BadValue within.0 within.1)).0;
+      device = small opening.device (and_parts (nat_lt opening.device (2 ^ 48)) (is_some (base_in opening.server))
+          (allowed (is_opening opening) BadValue within.0 within.1)).0;
       from_one = apart.range.from_one;
       next = apart.range.next;
     })))
@@ -197,51 +212,84 @@ finalize_apart state x is apart =
     (keeps state left (put_leaves item kept left.instances.items state.counters.draws done.0.acted.draws apart
     draws.further draws.drawn (held_on entry.0.base item kept) draws.range (λ is. absurd (cc is))))
 
-finalize_all_apart : (state : State) (x : State × Answer) → finalize_all state ≡ Ok x → HasIdsApart state
-    → KeepsApart state x.0
-finalize_all_apart state x is apart =
-    came (KeepsApart state) (finalized_all state (batch_of state)) _ x (then_ok (not_full state) _ x is).2
+finalize_all_apart : (state : State) (hand : Hand) (x : State × Answer) → finalize_all state hand ≡ Ok x
+    → HasIdsApart state → KeepsApart state x.0
+finalize_all_apart state hand x is apart =
+    let nobody = then_ok (free_for hand state.locks.instances) _ x is in
+    came (KeepsApart state) (finalized_all state (batch_of state)) _ x (then_ok (not_full state) _ x nobody.2).2
     (keeps state _ (batch_leaves_ids state apart))
 
-drop_instance_apart : (state : State) (number : ℕ) (x : State × Answer) → drop_instance state number ≡ Ok x
-    → HasIdsApart state → KeepsApart state x.0
-drop_instance_apart state number x is apart =
-    let there = then_ok (found_or (instance_of state number) NoInstance) _ x is in
-    let unused = then_ok (refused_if (stands_on number state.entry) (InUse number)) _ x there.2 in
+drop_instance_apart : (state : State) (hand : Hand) (number : ℕ) (x : State × Answer)
+    → drop_instance state hand number ≡ Ok x → HasIdsApart state → KeepsApart state x.0
+drop_instance_apart state hand number x is apart =
     let kept = state.instances.items in
-    came (KeepsApart state) _ _ x (then_ok (not_full state) _ x unused.2).2
+    came (KeepsApart state) _ _ x (dropping state hand number x is).made
     (keeps state _ (gone_leaves kept (dropped number kept) state.counters.draws state.counters.draws apart refl
     (λ P all. all_dropped P number kept all) apart.range))
 
+-- ---- sends
+
+take_lock_apart : (state : State) (hand : Hand) (round : Round) (x : State × Answer) → take_lock state hand round ≡ Ok x
+    → HasIdsApart state → KeepsApart state x.0
+take_lock_apart state hand rounds.Forms x is apart = not_built_apart state x is
+take_lock_apart state hand rounds.Lists x is apart = not_built_apart state x is
+take_lock_apart state hand rounds.Send x is apart = came (KeepsApart state) _ _ x (taking state hand x is).made
+    (keeps state _ (as_they_were state apart))
+
+release_apart : (state : State) (hand : Hand) (lock : Lock) (x : State × Answer) → release state hand lock ≡ Ok x
+    → HasIdsApart state → KeepsApart state x.0
+release_apart state hand lock x is apart = came (KeepsApart state) _ _ x (releasing state hand lock x is).made
+    (keeps state _ (as_they_were state apart))
+
+send_begun_apart : (state : State) (hand : Hand) (number : ℕ) (x : State × Answer) → send_begun state hand number ≡ Ok x
+    → HasIdsApart state → KeepsApart state x.0
+send_begun_apart state hand number x is apart =
+    came (KeepsApart state) _ _ x (beginning state hand number x is).made
+    (keeps state (sending state hand number) (changed_leaves (with_tried (state.counters.position + 1)) number
+    state.instances.items state.counters.draws (λ i. refl) (λ i. refl) (λ i none. none) apart))
+
+no_id_again : (taken : Bool) (i : InstanceRec) → HasNoIdYet (with_status (status_after taken) i)
+no_id_again true i draft = absurd (cc draft)
+no_id_again false i draft = absurd (cc draft)
+
+send_ended_apart : (state : State) (hand : Hand) (number : ℕ) (outcome : Outcome) (x : State × Answer)
+    → send_ended state hand number outcome ≡ Ok x → HasIdsApart state → KeepsApart state x.0
+send_ended_apart state hand number outcome x is apart =
+    came (KeepsApart state) _ _ x (ending state hand number outcome x is).made
+    (keeps state (ended_as state hand number (is_taken outcome))
+    (changed_leaves (with_status (status_after (is_taken outcome))) number state.instances.items
+    state.counters.draws (λ i. refl) (λ i. refl) (λ i none. no_id_again (is_taken outcome) i) apart))
+
 -- ---- any entry
 
-obeyed_apart : (state : State) (command : Command) (x : State × Answer) → obeyed state command ≡ Ok x
+obeyed_apart : (state : State) (hand : Hand) (command : Command) (x : State × Answer) → obeyed state hand command ≡ Ok x
     → HasIdsApart state → KeepsApart state x.0
-obeyed_apart state (commands.AutoSend on) x is apart = auto_apart state on x is apart
-obeyed_apart state (commands.UpdateMode mode) x is apart = mode_apart state mode x is apart
-obeyed_apart state (commands.TakeLock round) x is apart = not_built_apart state x is
-obeyed_apart state (commands.Release lock) x is apart = not_built_apart state x is
-obeyed_apart state (commands.Load bytes) x is apart = load_apart state bytes x is apart
-obeyed_apart state (commands.Ask id) x is apart = not_built_apart state x is
-obeyed_apart state (commands.Fetched job at outcome) x is apart = not_built_apart state x is
-obeyed_apart state commands.RoundDone x is apart = not_built_apart state x is
-obeyed_apart state (commands.DropForm id) x is apart = drop_form_apart state id x is apart
-obeyed_apart state (commands.Start base how) x is apart = start_apart state base how x is apart
-obeyed_apart state (commands.Fill path value) x is apart = fill_apart state path value x is apart
-obeyed_apart state commands.SaveDraft x is apart = save_apart state x is apart
-obeyed_apart state commands.Leave x is apart = leave_apart state x is apart
-obeyed_apart state commands.Finalize x is apart = finalize_apart state x is apart
-obeyed_apart state commands.FinalizeAll x is apart = finalize_all_apart state x is apart
-obeyed_apart state (commands.DropInstance number) x is apart = drop_instance_apart state number x is apart
-obeyed_apart state (commands.SendBegun number at) x is apart = not_built_apart state x is
-obeyed_apart state (commands.SendEnded number outcome) x is apart = not_built_apart state x is
-obeyed_apart state commands.Tick x is apart = tick_apart state x is apart
+obeyed_apart state hand (commands.AutoSend on) x is apart = auto_apart state on x is apart
+obeyed_apart state hand (commands.UpdateMode mode) x is apart = mode_apart state mode x is apart
+obeyed_apart state hand (commands.TakeLock round) x is apart = take_lock_apart state hand round x is apart
+obeyed_apart state hand (commands.Release lock) x is apart = release_apart state hand lock x is apart
+obeyed_apart state hand (commands.Load bytes) x is apart = load_apart state hand bytes x is apart
+obeyed_apart state hand (commands.Ask id) x is apart = not_built_apart state x is
+obeyed_apart state hand (commands.Fetched job at outcome) x is apart = not_built_apart state x is
+obeyed_apart state hand commands.RoundDone x is apart = not_built_apart state x is
+obeyed_apart state hand (commands.DropForm id) x is apart = drop_form_apart state hand id x is apart
+obeyed_apart state hand (commands.Start base how) x is apart = start_apart state base how x is apart
+obeyed_apart state hand (commands.Fill path value) x is apart = fill_apart state path value x is apart
+obeyed_apart state hand commands.SaveDraft x is apart = save_apart state x is apart
+obeyed_apart state hand commands.Leave x is apart = leave_apart state x is apart
+obeyed_apart state hand commands.Finalize x is apart = finalize_apart state x is apart
+obeyed_apart state hand commands.FinalizeAll x is apart = finalize_all_apart state hand x is apart
+obeyed_apart state hand (commands.DropInstance number) x is apart = drop_instance_apart state hand number x is apart
+obeyed_apart state hand (commands.SendBegun number at) x is apart = send_begun_apart state hand number x is apart
+obeyed_apart state hand (commands.SendEnded number outcome) x is apart =
+    send_ended_apart state hand number outcome x is apart
+obeyed_apart state hand commands.Tick x is apart = tick_apart state x is apart
 
 entered_apart : (state : State) (entry : Entry) (x : State × Answer) → entered state entry ≡ Ok x
     → HasIdsApart state → KeepsApart state x.0
 entered_apart state (Opened opening) x is apart = opened_apart state opening x is apart
 entered_apart state (Done hand command) x is apart =
-    obeyed_apart state command x (then_ok (refused_if (not (is_within_limits command)) BadValue) _ x is).2 apart
+    obeyed_apart state hand command x (then_ok (refused_if (not (is_within_limits command)) BadValue) _ x is).2 apart
 
 pub step_apart : (state next : State) (entry : Entry) (answer : Answer) → HasIdsApart state
     → step state entry ≡ Ok (next, answer) → KeepsApart state next

@@ -20,7 +20,7 @@ rise_joined [] n rise below = (tt, tt)
 rise_joined (m ∷ ms) n (here, there) (less, below) =
     (all_joined (λ k. m < k) ms (n ∷ []) here (less, tt), rise_joined ms n there below)
 
-numbers_joined : (kept : List InstanceRec) (item : InstanceRec)
+pub numbers_joined : (kept : List InstanceRec) (item : InstanceRec)
     → numbers_of (kept ++ item ∷ []) ≡ numbers_of kept ++ item.number ∷ []
 numbers_joined [] item = refl
 numbers_joined (k ∷ ks) item = ap (λ ns. k.number ∷ ns) (numbers_joined ks item)
@@ -53,7 +53,7 @@ added_orderly item kept next entry is orderly = added_so (can_add item.number ke
 
 -- ---- others in their places
 
-numbers_set : (kept : List InstanceRec) (place : ℕ) (item : InstanceRec)
+pub numbers_set : (kept : List InstanceRec) (place : ℕ) (item : InstanceRec)
     → option_map (λ (k : InstanceRec). k.number) (slice_get kept place) ≡ Some item.number
     → numbers_of (slice_set kept place item) ≡ numbers_of kept
 numbers_set [] place item at = refl
@@ -65,10 +65,10 @@ numbers_at : (item : InstanceRec) (kept : List InstanceRec) (o : Option ℕ) →
 numbers_at item kept None is = refl
 numbers_at item kept (Some place) is = numbers_set kept place item (place-Some item.number kept place is).1
 
-numbers_replaced : (item : InstanceRec) (kept : List InstanceRec) → numbers_of (replaced_by item kept) ≡ numbers_of kept
+pub numbers_replaced : (item : InstanceRec) (kept : List InstanceRec) → numbers_of (replaced_by item kept) ≡ numbers_of kept
 numbers_replaced item kept = numbers_at item kept (place_of item.number kept) refl
 
-numbers_each : (items kept : List InstanceRec) → numbers_of (each_replaced items kept) ≡ numbers_of kept
+pub numbers_each : (items kept : List InstanceRec) → numbers_of (each_replaced items kept) ≡ numbers_of kept
 numbers_each [] kept = refl
 numbers_each (item ∷ items) kept = numbers_each items (replaced_by item kept) ∙ numbers_replaced item kept
 
@@ -89,7 +89,7 @@ rise_removed (n ∷ ns) zero (here, there) = there
 rise_removed (n ∷ ns) (suc place) (here, there) =
     (all_removed (λ m. n < m) ns place here, rise_removed ns place there)
 
-numbers_removed : (kept : List InstanceRec) (place : ℕ)
+pub numbers_removed : (kept : List InstanceRec) (place : ℕ)
     → numbers_of (remove kept place) ≡ remove (numbers_of kept) place
 numbers_removed [] zero = refl
 numbers_removed [] (suc place) = refl

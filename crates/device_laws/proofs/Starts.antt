@@ -14,7 +14,7 @@ use Rattle.device_rules.specs.declared.start.Source.{Source}
 use Rattle.device_rules.specs.declared.refused.Refused.TheVariants.{EntryThere, NoForm, NoInstance, NoVersion}
 use Rattle.device_rules.specs.Start.{base_record, begun, blank_record, counted_record, counts, has_id, instance_of}
 use Rattle.device_rules.specs.Start.{instance_record, key_of_source, not_edited, opened_with, or_no_form, record_at}
-use Rattle.device_rules.specs.Start.{record_form, right_status, savepoint_met, savepoints_left, sheet_of, source_of}
+use Rattle.device_rules.specs.Start.{record_form, right_status, savepoint_met, savepoints_left, source_of}
 use Rattle.device_rules.specs.Start.{start}
 use Rattle.device_rules.specs.Tests.{found_or, not_full, refused_if}
 use Rattle.device_state.specs.declared.entry.OpenEntry.{OpenEntry}

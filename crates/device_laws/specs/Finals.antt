@@ -1,11 +1,14 @@
--- What holds of finalized instances over every legal history: each stays as it is for as long as it is kept.
-use Rattle.std.specs.Prelude.{◌≡◌, ℕ, ◌<◌, true, List, [], ◌∷◌, ◌++◌, map, ⊤, Option, Some}
+-- What holds of finalized instances over every legal history: each stays as it is for as long as it is kept. With it goes
+-- what holds of sends in flight: none is of a draft, and no two are of one instance.
+use Rattle.std.specs.Prelude.{◌≡◌, ◌≢◌, ℕ, ◌<◌, true, List, [], ◌∷◌, ◌++◌, map, ⊤, Option, Some}
 use Rattle.std.specs.List.{AllByRecursion}
 use Rattle.std.specs.Option.{IfSome}
 use Rattle.entry_form.specs.declared.entry.Entry.{Entry}
 use Rattle.device_state.specs.declared.entry.OpenEntry.{OpenEntry}
+use Rattle.device_state.specs.declared.flight.Flight.{Flight}
 use Rattle.device_state.specs.declared.state.State.{State}
 use Rattle.device_state.specs.State.{initial}
+use Rattle.device_rules.specs.Due.{is_queued}
 use Rattle.device_rules.specs.FinalizeAll.{is_finalized}
 use Rattle.device_rules.specs.Start.{has_status}
 use Rattle.device_rules.specs.Trail.{replay}
@@ -36,9 +39,37 @@ pub record AreOrderly (instances : List InstanceRec) (next : ℕ) (entry : Optio
   pub below : AllByRecursion (λ n. n < next) (numbers_of instances)
   pub base : IfSome entry (HasRightBase instances)
 
--- Numbers are given once, in their order, and no finalized instance is filled in further.
-abbrev pub IsOrderly : State → Type 0
-IsOrderly state = AreOrderly state.instances.items state.counters.next_instance state.entry
+-- ---- sends in flight
+
+-- no number is among those behind it
+abbrev pub DoDiffer : List ℕ → Type 0
+DoDiffer [] = ⊤
+DoDiffer (n ∷ ns) = AllByRecursion (λ m. m ≢ n) ns × DoDiffer ns
+
+abbrev pub sent_numbers : List Flight → List ℕ
+sent_numbers flights = map (λ f. f.number) flights
+
+-- the number was given, and P holds of the instance that is kept under it
+pub record HoldsUnder (number : ℕ) (P : InstanceRec → Type 0) (kept : List InstanceRec) (next : ℕ) : Type 0 where
+  pub below : number < next
+  pub holds : AllByRecursion (λ i. i.number ≡ number → P i) kept
+
+abbrev pub IsQueued : InstanceRec → Type 0
+IsQueued i = is_queued i ≡ true
+
+-- a send is of an instance in the queue
+abbrev pub IsOfQueue : List InstanceRec → ℕ → Flight → Type 0
+IsOfQueue instances next flight = HoldsUnder flight.number IsQueued instances next
+
+pub record AreSendsOrderly (instances : List InstanceRec) (next : ℕ) (flights : List Flight) : Type 0 where
+  pub differ : DoDiffer (sent_numbers flights)
+  pub queued : AllByRecursion (IsOfQueue instances next) flights
+
+-- Numbers are given once, in their order, and no finalized instance is filled in further. No instance has two sends in
+-- flight, and one that has is in the queue.
+pub record IsOrderly (state : State) : Type 0 where
+  pub kept : AreOrderly state.instances.items state.counters.next_instance state.entry
+  pub sends : AreSendsOrderly state.instances.items state.counters.next_instance state.flights.items
 
 -- ---- finalized instances
 

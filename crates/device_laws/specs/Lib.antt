@@ -1,3 +1,4 @@
 pub mod Soundness
 pub mod Finals
 pub mod DrawnIds
+pub mod Sends

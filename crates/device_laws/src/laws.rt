@@ -8,6 +8,7 @@ ghost use Rattle.device_rules.specs.Step.{step};
 ghost use Rattle.device_rules.specs.Trail.{replay};
 ghost use Rattle.device_laws.specs.DrawnIds.{KeepsIdsApart};
 ghost use Rattle.device_laws.specs.Finals.{IsOrderly, KeepsFinals, StaysFinal};
+ghost use Rattle.device_laws.specs.Sends.{KeepsSends};
 ghost use Rattle.device_laws.specs.Soundness.{IsSound, KeepsUsedForms, StaysWhereNamed};
 
 /// A law of the rules: before the first entry nothing names a form.
@@ -38,15 +39,15 @@ pub fn histories_keep_used_forms()
     ensures { (entries : List Entry) → KeepsUsedForms entries }
 {}
 
-/// A law of the rules: where numbers of instances are given once and no finalized instance is filled in further, it
-/// is so behind an entry too.
+/// A law of the rules: where numbers of instances are given once, no finalized instance is filled in further and each
+/// send in flight is of an instance of its own in the queue, it is so behind an entry too.
 pub fn steps_keep_order()
     ensures { (state next : State) (entry : Entry) (answer : Answer) → IsOrderly state
         → step state entry ≡ Ok (next, answer) → IsOrderly next }
 {}
 
-/// A law of the rules: over every legal history numbers of instances are given once, and no finalized instance is
-/// filled in further.
+/// A law of the rules: over every legal history numbers of instances are given once, no finalized instance is filled in
+/// further, and each send in flight is of an instance of its own in the queue.
 pub fn histories_are_orderly()
     ensures { (entries : List Entry) (state : State) → replay initial entries ≡ Some state → IsOrderly state }
 {}
@@ -67,4 +68,10 @@ pub fn histories_keep_finals()
 /// for two entries differ, whatever numbers the device was opened with.
 pub fn histories_keep_ids_apart()
     ensures { (entries : List Entry) → KeepsIdsApart entries }
+{}
+
+/// A law of the rules: over each history an instance is sent exactly where a reply that accepts it was recorded for a
+/// send of it that was begun; until then it is in the queue. One send of an instance is in flight at most.
+pub fn histories_keep_sends()
+    ensures { (entries : List Entry) → KeepsSends entries }
 {}

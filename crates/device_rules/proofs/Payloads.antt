@@ -1,11 +1,9 @@
 -- How many bytes the entries take whose values are within their limits.
 use Rattle.std.proofs.Common.{◌≡◌, ◌≢◌, ℕ, ◌+◌, ◌≤◌, ◌<◌, ◌^◌, List, [], ◌∷◌, ◌++◌, length, Bool, true, false, Option, Some, None, Result, Ok, Err, refl, sym, ◌∙◌, ap, arith, length-append}
-use Rattle.std.specs.Prelude.{◌&&◌, not, nat_lt, nat_le, if◌then◌else◌}
+use Rattle.std.specs.Prelude.{◌&&◌, not, nat_lt, nat_le, is_some, if◌then◌else◌}
 use Rattle.std.specs.Int.{w32, to_le_bytes}
-use Rattle.std.specs.Str.{bytes_eq}
 use Rattle.std.proofs.lemmas.Bool.Decides.{nat_tests}
 use Rattle.std.proofs.lemmas.List.Concat.{flat_map-cons}
-use Rattle.std.proofs.lemmas.Slice.Eq.{bytes_eq-Decides}
 use Rattle.entry_form.specs.declared.command.Base.TheVariants.{Blank, Draft, Edit}
 use Rattle.entry_form.specs.declared.command.Command.{Command}
 use Rattle.entry_form.specs.declared.command.Command.TheVariants as commands
@@ -20,7 +18,7 @@ use Rattle.device_rules.specs.declared.refused.Refused.{Refused}
 use Rattle.device_rules.specs.declared.refused.Refused.TheVariants.{BadValue, NoEntry}
 use Rattle.device_state.specs.declared.state.State.{State}
 use Rattle.device_rules.specs.Limits.{most_entries, is_short, is_form_short, is_reply_short, is_moment, is_version_short, is_within_limits, answer_in}
-use Rattle.device_rules.specs.Opened.{default_server, is_opening}
+use Rattle.device_rules.specs.Opened.{is_opening, is_server}
 use Rattle.device_rules.specs.Payload.{FitsPayload}
 use Rattle.device_rules.specs.Fill.{fill, filled}
 use Rattle.entity_lists.specs.EntityTables.{tables_of}
@@ -33,6 +31,7 @@ use Rattle.kept_forms.specs.KeptForms.{filled_of}
 use Rattle.question_rules.specs.declared.answers.AnswerRefused.{AnswerRefused}
 use Rattle.question_rules.specs.declared.answers.AnswerRefused.TheVariants.{NoQuestion}
 use Rattle.field_text.proofs.StepLemmas.{then_ok}
+use Rattle.wire_laws.specs.Bases.{base_in}
 
 -- ---- bytes of parts
 
@@ -131,8 +130,8 @@ not_bad false more purge good = absurd (good refl)
 
 opening_fits : (opening : Opening) → is_opening opening ≡ true → FitsPayload (Opened opening)
 opening_fits opening ok =
-    let server = (bytes_eq-Decides opening.server default_server).0 (both (nat_lt opening.device (2 ^ 48)) (bytes_eq opening.server default_server) ok).1 in
-    let l : length opening.server ≡ 21 = ap length server in
+    let server = both (nat_lt opening.device (2 ^ 48)) (is_server opening.server) ok in
+    let l = within (length opening.server) 4096 (both (is_short opening.server) (is_some (base_in opening.server)) server.1).0 in
     fits (Opened opening) (tt, (tt, (tt, (omega (arith, l), tt)))) (omega arith) (omega (arith, l))
 
 pub good_fits : (state : State) (entry : Entry) → step state entry ≢ Err BadValue → length (answer_in entry) ≤ 2000 → FitsPayload entry
@@ -157,7 +156,7 @@ fill_short state path value x is =
     (taken (filled_of (tables_of state.lists.items) opened.0.form opened.0.sheet path value) filled_so.0 filled_so.1)
 
 -- an answer that is taken is short, and no other entry carries one
-answer_short : (state : State) (hand : Hand) (command : Command) (x : State × Answer) → commanded state command ≡ Ok x
+answer_short : (state : State) (hand : Hand) (command : Command) (x : State × Answer) → commanded state hand command ≡ Ok x
     → length (answer_in (Done hand command)) ≤ 2000
 answer_short state hand (commands.AutoSend on) x is = omega arith
 answer_short state hand (commands.UpdateMode mode) x is = omega arith

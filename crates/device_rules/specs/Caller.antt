@@ -16,7 +16,8 @@ use Rattle.device_state.specs.declared.state.State.{State}
 use Rattle.device_rules.specs.declared.told.SubmitFault.{SubmitFault}
 use Rattle.device_rules.specs.declared.told.SubmitFault.TheVariants as faults
 use Rattle.device_rules.specs.declared.told.Told.{Told}
-use Rattle.device_rules.specs.Answers.{answer_to, due_for}
+use Rattle.device_rules.specs.Answers.{answer_to}
+use Rattle.device_rules.specs.Due.{due_for}
 use Rattle.device_rules.specs.Limits.{largest_journal}
 use Rattle.device_rules.specs.Refused.{rule_of}
 use Rattle.device_rules.specs.Step.{step, IsRefused}

@@ -1,5 +1,5 @@
--- All drafts and invalid instances are finalized, in order of number and each on the lists that the earlier ones left; one
--- that can't be becomes invalid. One that is being filled in, or has a savepoint, is left as it is.
+-- Every draft and invalid instance is finalized by rising number, over the entity lists that those before it leave; where a rule
+-- refuses it, it becomes invalid. One that is being filled in, or has a savepoint, stays. No other hand may hold the instances.
 use Rattle.std.specs.Prelude.{◌+◌, Bool, not, ◌&&◌, ◌||◌, List, [], ◌∷◌, ◌++◌, length, fold, Result, Ok, Err}
 use Rattle.std.specs.List.{filter, list_any}
 use Rattle.device_state.specs.declared.entry.OpenEntry.{OpenEntry}
@@ -9,6 +9,7 @@ use Rattle.device_state.specs.State.{bare, one_further}
 use Rattle.entity_lists.specs.declared.entity_list.EntityList.{EntityList}
 use Rattle.entry_form.specs.declared.command.Base.TheVariants as bases
 use Rattle.entry_form.specs.declared.command.How.TheVariants.{Fresh}
+use Rattle.entry_form.specs.declared.hand.Hand.{Hand}
 use Rattle.field_ids.specs.Draws.{NextDraw}
 use Rattle.field_text.specs.Steps.{◌>>=◌}
 use Rattle.instance_store.specs.declared.records.InstanceRec.{InstanceRec}
@@ -24,6 +25,7 @@ use Rattle.device_rules.specs.declared.refused.Refused.{Refused}
 use Rattle.device_rules.specs.Acting.{lists_with}
 use Rattle.device_rules.specs.DropInstance.{stands_on}
 use Rattle.device_rules.specs.Finalize.{drawn_to, finalized_at, finish}
+use Rattle.device_rules.specs.Holders.{free_for}
 use Rattle.device_rules.specs.SaveDraft.{draft_of, kept_name}
 use Rattle.device_rules.specs.Start.{is_draft, source_of}
 use Rattle.device_rules.specs.Tests.{Stepped, not_full}
@@ -118,7 +120,8 @@ finalized_all state batch = record state {
   lists = bare batch.lists;
 }
 
-abbrev pub finalize_all : State → Stepped
-finalize_all state = do
+abbrev pub finalize_all : State → Hand → Stepped
+finalize_all state hand = do
+  nobody ← free_for hand state.locks.instances
   room ← not_full state
   Ok (finalized_all state (batch_of state), Bulk (bulk_of state (batch_of state)))

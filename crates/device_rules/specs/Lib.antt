@@ -1,8 +1,8 @@
 pub mod Refused
-pub mod Answers
 pub mod Limits
 pub mod Payload
 pub mod Tests
+pub mod Holders
 pub mod Opened
 pub mod AutoSend
 pub mod UpdateMode
@@ -17,8 +17,14 @@ pub mod Acting
 pub mod Finalize
 pub mod FinalizeAll
 pub mod Batches
+pub mod Due
+pub mod TakeLock
+pub mod Release
+pub mod SendBegun
+pub mod SendEnded
 pub mod Tick
 pub mod NotBuilt
+pub mod Answers
 pub mod Step
 pub mod Prepared
 pub mod Trail

@@ -1,8 +1,9 @@
--- A form is loaded from its document: it is kept, visible and complete.
+-- A form is loaded from its document: it is kept, visible and complete. No other hand may hold the forms.
 use Rattle.std.specs.Prelude.{ℕ, ◌+◌, true, List, [], slice_get, Result, Ok, Err}
 use Rattle.std.specs.Option.{option_map_or}
 use Rattle.device_state.specs.declared.state.State.{State}
 use Rattle.device_state.specs.State.{bare, one_further}
+use Rattle.entry_form.specs.declared.hand.Hand.{Hand}
 use Rattle.field_ids.specs.Hashes.{hash_of}
 use Rattle.field_text.specs.Steps.{◌>>=◌}
 use Rattle.form_store.specs.Forms.{check, form_limit, put}
@@ -14,6 +15,7 @@ use Rattle.device_rules.specs.declared.answer.Answer.TheVariants.{Done}
 use Rattle.device_rules.specs.declared.refused.Refused.{Refused}
 use Rattle.device_rules.specs.declared.refused.Refused.TheVariants as refusals
 use Rattle.device_rules.specs.declared.refused.Which.TheVariants as limits
+use Rattle.device_rules.specs.Holders.{free_for}
 use Rattle.device_rules.specs.Refused.{or_form_refused}
 use Rattle.device_rules.specs.Tests.{Stepped, not_full}
 
@@ -61,7 +63,12 @@ load_by state bytes Full = Err (refusals.Limit limits.Forms form_limit)
 abbrev pub load_form : State → List ℕ → Stepped
 load_form state bytes = load_by state bytes (check (id_of bytes) (version_of bytes) bytes state.forms.items)
 
-abbrev pub load : State → List ℕ → Stepped
-load state bytes = do
+abbrev pub load_read : State → List ℕ → Stepped
+load_read state bytes = do
   form ← read_form bytes
   load_form state form
+
+abbrev pub load : State → Hand → List ℕ → Stepped
+load state hand bytes = do
+  nobody ← free_for hand state.locks.forms
+  load_read state bytes

@@ -11,15 +11,20 @@ use Rattle.form_read.specs.declared.refusal.FormRefused.TheVariants as forms
 use Rattle.question_rules.specs.declared.answers.AnswerRefused.{AnswerRefused}
 use Rattle.question_rules.specs.declared.answers.AnswerRefused.TheVariants as answers
 use Rattle.device_rules.specs.declared.refused.Refused.{Refused}
-use Rattle.device_rules.specs.declared.refused.Refused.TheVariants.{BadValue, NoForm, NoVersion, NoInstance, NoEntry}
+use Rattle.device_rules.specs.declared.refused.Refused.TheVariants.{BadValue, Busy, NotHolder, NothingDue}
+use Rattle.device_rules.specs.declared.refused.Refused.TheVariants.{NoForm, NoVersion, NoInstance, NoEntry}
 use Rattle.device_rules.specs.declared.refused.Refused.TheVariants.{EntryThere, SavepointThere, NoSavepoint}
 use Rattle.device_rules.specs.declared.refused.Refused.TheVariants.{WrongStatus, HasEdit, InUse, Answer, NotFinal, FormRefused}
-use Rattle.device_rules.specs.declared.refused.Refused.TheVariants.{OtherBytes, Limit, NoMemory, NotBuilt}
+use Rattle.device_rules.specs.declared.refused.Refused.TheVariants.{OtherBytes, Limit, NotInFlight, InFlight}
+use Rattle.device_rules.specs.declared.refused.Refused.TheVariants.{NoMemory, NotBuilt}
 use Rattle.device_rules.specs.declared.refused.Which.TheVariants.{Rows, Versions}
 
 -- Of the refusals that apply the one of the least number is given; want of memory comes after all.
 abbrev pub refused_number : Refused → ℕ
 refused_number BadValue = 1
+refused_number (Busy hand since) = 2
+refused_number (NotHolder holder) = 3
+refused_number NothingDue = 4
 refused_number NoForm = 5
 refused_number NoVersion = 6
 refused_number NoInstance = 7
@@ -35,6 +40,8 @@ refused_number (NotFinal why) = 16
 refused_number (FormRefused why) = 17
 refused_number (OtherBytes kept new) = 18
 refused_number (Limit which number) = 19
+refused_number NotInFlight = 21
+refused_number (InFlight number) = 22
 refused_number NoMemory = 23
 refused_number NotBuilt = 24
 

@@ -1,6 +1,7 @@
 use device_state::Settings;
 use entity_lists::EntityRow;
 use field_text::{Blob, Items, Text};
+use http_wire::Address;
 use instance_store::Status;
 use kept_forms::FieldLine;
 
@@ -54,6 +55,16 @@ pub struct Counts {
     pub lists: u64,
 }
 
+/// The next instance to send.
+#[derive(Debug, Drop)]
+pub struct NextSend {
+    pub number: u64,
+    /// Its finalized document.
+    pub doc: Blob,
+    /// The base of the server's addresses; its parts are empty where the server has none.
+    pub base: Address,
+}
+
 /// What is asked of a device, which changes nothing.
 #[derive(Debug, Drop)]
 pub enum Query {
@@ -66,6 +77,8 @@ pub enum Query {
     DocOf(u64),
     /// The entities of the list of this name; of a list that isn't there none.
     Entities(Text),
+    /// The first instance that is due for the hand.
+    NextSend,
     Counts,
 }
 
@@ -82,5 +95,6 @@ pub enum Answer {
     EntryNow(Option<EntryView>),
     Doc(Blob),
     Entities(Items<EntityRow>),
+    NextSend(Option<NextSend>),
     Counts(Counts),
 }

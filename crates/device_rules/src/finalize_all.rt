@@ -1,4 +1,4 @@
-// All drafts and invalid instances are finalized, as far as they can be.
+// All drafts and invalid instances are finalized, as far as they can be. No other hand may hold the instances.
 ghost use Rattle.std.specs.Prelude.{◌≡◌, ◌<◌, ◌^◌, Ok, Err, IfOk, OnOk, length};
 ghost use Rattle.std.specs.List.{filter, list_any};
 ghost use Rattle.savepoints.specs.Keys.{same_base};
@@ -17,13 +17,14 @@ use crate::acting::Acted;
 use crate::answer::{Answer, Finalized};
 use crate::drop_instance::stands_on;
 use crate::finalize::{Finished, drawn_to, finalized_at, finish};
+use crate::holders::free_for;
 use crate::prepared::{Parts, not_full};
 use crate::refused::Refused;
 use crate::save_draft::{draft_of, kept_name};
 use crate::start::{is_draft, source_of};
 use device_state::{Changes, InstanceChange, ListChange, OpenEntry, State};
 use entity_lists::EntityLists;
-use entry_form::{Base, How};
+use entry_form::{Base, Hand, How, Lock};
 use field_ids::Draws;
 use field_text::NoMemory;
 use instance_store::{InstanceRec, Status};
@@ -263,9 +264,10 @@ fn bulk_of(state: &State, bulk: &Bulk) -> Finalized
     }
 }
 
-pub(crate) fn finalize_all(alloc: Global, state: &State) -> Result<Parts, Refused>
-    ensures { Makes (plain state.now) result (finalize_all (plain state.now)) }
+pub(crate) fn finalize_all(alloc: Global, state: &State, hand: Hand) -> Result<Parts, Refused>
+    ensures { Makes (plain state.now) result (finalize_all (plain state.now) hand) }
 {
+    free_for(state.locks.holder(Lock::Instances), hand)?;
     not_full(state)?;
     let bulk = batch_of(alloc, state)?;
     let answer = Answer::Bulk(bulk_of(state, &bulk));

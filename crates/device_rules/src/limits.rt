@@ -6,7 +6,7 @@ ghost use Rattle.device_rules.specs.Limits.{is_base_short, is_outcome_short, is_
 use entry_form::{Base, Command, Outcome};
 use field_text::{Blob, Text};
 
-fn is_short(text: &Text) -> bool
+pub(crate) fn is_short(text: &Text) -> bool
     ensures { result ≡ is_short text.now }
 {
     text.bytes().len() <= 4_096

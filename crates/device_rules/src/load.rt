@@ -1,16 +1,18 @@
-// A form is loaded from its document: it is kept, visible and complete.
+// A form is loaded from its document: it is kept, visible and complete. No other hand may hold the forms.
 ghost use Rattle.std.specs.Prelude.{◌≡◌, IfOk};
 ghost use Rattle.field_text.specs.Steps.{Gives};
 ghost use Rattle.device_state.specs.State.{plain};
-ghost use Rattle.device_rules.specs.Load.{form_record, hash_at, load, load_form, other_bytes, put_form};
+ghost use Rattle.device_rules.specs.Load.{form_record, hash_at, load, load_form, load_read, other_bytes, put_form};
 ghost use Rattle.device_rules.specs.Load.{read_form};
 ghost use Rattle.device_rules.specs.Prepared.{Makes};
 ghost use Rattle.device_rules.specs.Refused.{rule_of};
 
 use crate::answer::Answer;
+use crate::holders::free_for;
 use crate::prepared::{Parts, not_full};
 use crate::refused::{Refused, Which};
 use device_state::{Changes, FormChange, State};
+use entry_form::{Hand, Lock};
 use field_ids::hash_text;
 use field_text::{Blob, NoMemory, Text};
 use form_store::{Check, FORM_LIMIT, FormRec};
@@ -97,9 +99,16 @@ fn load_form(alloc: Global, state: &State, form: KeptForm) -> Result<Parts, Refu
     }
 }
 
-pub(crate) fn load(alloc: Global, state: &State, bytes: &Blob) -> Result<Parts, Refused>
-    ensures { Makes (plain state.now) result (load (plain state.now) bytes.now) }
+fn load_read(alloc: Global, state: &State, bytes: &Blob) -> Result<Parts, Refused>
+    ensures { Makes (plain state.now) result (load_read (plain state.now) bytes.now) }
 {
     let form = read_form(alloc, bytes)?;
     load_form(alloc, state, form)
+}
+
+pub(crate) fn load(alloc: Global, state: &State, hand: Hand, bytes: &Blob) -> Result<Parts, Refused>
+    ensures { Makes (plain state.now) result (load (plain state.now) hand bytes.now) }
+{
+    free_for(state.locks.holder(Lock::Forms), hand)?;
+    load_read(alloc, state, bytes)
 }

@@ -1,25 +1,30 @@
 // What a query is answered.
-ghost use Rattle.std.specs.Prelude.{◌≡◌, IfOk, length, map, option_map};
+ghost use Rattle.std.specs.Prelude.{◌≡◌, [], IfOk, length, map, option_map};
 ghost use Rattle.std.specs.List.{filter};
+ghost use Rattle.std.specs.Option.{unwrap_or};
 ghost use Rattle.field_text.specs.Steps.{Gives};
 ghost use Rattle.device_state.specs.State.{plain};
 ghost use Rattle.entity_lists.specs.EntityTables.{tables_of};
 ghost use Rattle.device_rules.specs.Acting.{list_named};
-ghost use Rattle.device_rules.specs.Answers.{answer_to, counts_of, doc_of, entry_view, form_line, instance_line};
-ghost use Rattle.device_rules.specs.Answers.{is_queued, is_sent, rows_of};
+ghost use Rattle.device_rules.specs.Answers.{answer_to, base_for, counts_of, doc_of, entry_view, form_line};
+ghost use Rattle.device_rules.specs.Answers.{instance_line, is_sent, next_send, rows_of};
+ghost use Rattle.device_rules.specs.Due.{is_queued, next_due};
 ghost use Rattle.device_rules.specs.Refused.{rule_of};
 
 use crate::acting::list_named;
-use crate::answer::{Answer, Counts, EntryView, FormLine, InstanceLine, Query};
+use crate::answer::{Answer, Counts, EntryView, FormLine, InstanceLine, NextSend, Query};
+use crate::dues::{is_queued, next_due};
 use crate::refused::Refused;
 use crate::start::instance_of;
 use device_state::{OpenEntry, State};
 use entity_lists::{EntityLists, EntityRow};
 use entry_form::Hand;
-use field_text::{Items, NoMemory, Text};
+use field_text::{Blob, Items, NoMemory, Text};
 use form_store::FormRec;
+use http_wire::Address;
 use instance_store::{InstanceRec, Status};
 use std::alloc::Global;
+use wire_laws::server_base;
 
 fn form_line(alloc: Global, kept: &FormRec) -> Result<FormLine, NoMemory>
     ensures { IfOk result (λ line. line ≡ form_line kept.now) }
@@ -116,15 +121,6 @@ fn entities_of(alloc: Global, lists: &EntityLists, name: &Text) -> Result<Answer
     }
 }
 
-fn is_queued(instance: &InstanceRec) -> bool
-    ensures { result ≡ is_queued instance.now }
-{
-    match instance.status {
-        Status::Finalized | Status::SendFailed => true,
-        Status::Draft | Status::Invalid | Status::Sent => false,
-    }
-}
-
 fn is_sent(instance: &InstanceRec) -> bool
     ensures { result ≡ is_sent instance.now }
 {
@@ -165,6 +161,48 @@ fn counts_of(state: &State) -> Counts
     }
 }
 
+// The base of the server's addresses, with empty parts where it has none.
+fn base_for(alloc: Global, server: &Text) -> Result<Address, NoMemory>
+    ensures { IfOk result (λ base. base ≡ base_for server.now) }
+{
+    match server_base(alloc, server)? {
+        Some(base) => Ok(base),
+        None => Ok(Address {
+            authority: Text::from_string(String::new(alloc)),
+            target: Text::from_string(String::new(alloc)),
+        }),
+    }
+}
+
+fn doc_or_empty(alloc: Global, instance: &InstanceRec) -> Result<Blob, NoMemory>
+    ensures { IfOk result (λ doc. doc ≡ unwrap_or instance.now.doc []) }
+{
+    match &instance.doc {
+        Some(doc) => doc.copy(alloc),
+        None => Blob::from_bytes(alloc, &[]),
+    }
+}
+
+fn next_send(alloc: Global, state: &State, instance: &InstanceRec) -> Result<NextSend, NoMemory>
+    ensures { IfOk result (λ send. send ≡ next_send (plain state.now) instance.now) }
+{
+    Ok(NextSend {
+        number: instance.number,
+        doc: doc_or_empty(alloc, instance)?,
+        base: base_for(alloc, &state.server)?,
+    })
+}
+
+fn send_now(alloc: Global, state: &State, hand: Hand) -> Result<Answer, NoMemory>
+    ensures { IfOk result (λ answer. answer ≡ Answer.NextSend
+        (option_map (next_send (plain state.now)) (next_due (plain state.now) hand))) }
+{
+    match next_due(state, hand) {
+        Some(instance) => Ok(Answer::NextSend(Some(next_send(alloc, state, instance)?))),
+        None => Ok(Answer::NextSend(None)),
+    }
+}
+
 /// What a hand's query is answered. It may be refused for want of memory.
 pub fn ask(alloc: Global, state: &State, hand: Hand, query: &Query) -> Result<Answer, Refused>
     ensures { Gives rule_of (λ answer. answer) result (answer_to (plain state.now) hand query.now) }
@@ -179,6 +217,7 @@ pub fn ask(alloc: Global, state: &State, hand: Hand, query: &Query) -> Result<An
         Query::EntryNow => Ok(entry_now(alloc, state)?),
         Query::DocOf(number) => doc_of(alloc, state, *number),
         Query::Entities(name) => Ok(entities_of(alloc, &state.lists, name)?),
+        Query::NextSend => Ok(send_now(alloc, state, hand)?),
         Query::Counts => Ok(Answer::Counts(counts_of(state))),
     }
 }

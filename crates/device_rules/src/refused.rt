@@ -2,8 +2,10 @@ ghost use Rattle.std.specs.Prelude.{◌≡◌, is_none};
 ghost use Rattle.device_rules.specs.declared.refused.Refused.TheVariants.{NoMemory};
 ghost use Rattle.device_rules.specs.Refused.{action_refused, answer_refused, form_refused, not_final, rule_of};
 
+use change_locks::Held;
 use entity_lists::{ROW_LIMIT, VERSION_LIMIT};
 use entity_merge::ActionRefused;
+use entry_form::Hand;
 use field_text::Text;
 use finalizer::NotFinal;
 use form_read::FormRefused;
@@ -32,6 +34,12 @@ pub enum Which {
 pub enum Refused {
     /// A value that the command carries is outside its limit.
     BadValue,
+    /// The lock is held by this hand, since the entry at this position.
+    Busy { hand: Hand, since: u64 },
+    /// The hand doesn't hold the lock; who does.
+    NotHolder { holder: Option<Held> },
+    /// The instance waits to be sent, and isn't due for this hand.
+    NothingDue,
     /// No form of the id is kept that this command may take.
     NoForm,
     /// Forms of the id are kept, and none of the version that this command may take.
@@ -54,6 +62,10 @@ pub enum Refused {
     /// A form of the same id and version is kept with other bytes; these are the two hashes.
     OtherBytes { kept: Text, new: Text },
     Limit { which: Which, number: u64 },
+    /// The hand has no send of this instance in flight.
+    NotInFlight,
+    /// A send of the instance with this number is in flight.
+    InFlight { number: u64 },
     NoMemory,
     /// A command that this device doesn't know yet.
     NotBuilt,
@@ -68,6 +80,9 @@ impl Refused {
     {
         match self {
             Refused::BadValue => 1,
+            Refused::Busy { .. } => 2,
+            Refused::NotHolder { .. } => 3,
+            Refused::NothingDue => 4,
             Refused::NoForm => 5,
             Refused::NoVersion => 6,
             Refused::NoInstance => 7,
@@ -83,6 +98,8 @@ impl Refused {
             Refused::FormRefused(_) => 17,
             Refused::OtherBytes { .. } => 18,
             Refused::Limit { .. } => 19,
+            Refused::NotInFlight => 21,
+            Refused::InFlight { .. } => 22,
             Refused::NoMemory => 23,
             Refused::NotBuilt => 24,
         }

@@ -54,7 +54,7 @@ impl Source {
     }
 }
 
-fn record_at(forms: &FormStore, place: Option<u64>) -> Option<&FormRec>
+pub(crate) fn record_at(forms: &FormStore, place: Option<u64>) -> Option<&FormRec>
     ensures { option_map (λ kept. kept.now) result ≡ record_at forms.now.items place }
 {
     match place {

@@ -17,8 +17,12 @@ use crate::not_built::not_built;
 use crate::opened::opened;
 use crate::prepared::{Parts, Prepared};
 use crate::refused::Refused;
+use crate::release::release;
 use crate::save_draft::save_draft;
+use crate::send_begun::send_begun;
+use crate::send_ended::send_ended;
 use crate::start::start;
+use crate::take_lock::take_lock;
 use crate::tick::tick;
 use crate::update_mode::update_mode;
 use device_state::State;
@@ -35,40 +39,38 @@ pub fn begin(alloc: Global, state: &State, opening: Opening) -> Result<Prepared,
     Ok(Prepared::new(Entry::Opened(opening), parts))
 }
 
-// What a command whose values are within their limits changes.
-fn obeyed(alloc: Global, state: &State, command: &Command) -> Result<Parts, Refused>
-    ensures { Makes (plain state.now) result (obeyed (plain state.now) command.now) }
+// What a hand's command whose values are within their limits changes.
+fn obeyed(alloc: Global, state: &State, hand: Hand, command: &Command) -> Result<Parts, Refused>
+    ensures { Makes (plain state.now) result (obeyed (plain state.now) hand command.now) }
 {
     match command {
         Command::AutoSend(on) => auto_send(state, *on),
         Command::UpdateMode(mode) => update_mode(state, *mode),
-        Command::Load(bytes) => load(alloc, state, bytes),
-        Command::DropForm(id) => drop_form(alloc, state, id),
+        Command::TakeLock(round) => take_lock(state, hand, *round),
+        Command::Release(lock) => release(state, hand, *lock),
+        Command::Load(bytes) => load(alloc, state, hand, bytes),
+        Command::DropForm(id) => drop_form(alloc, state, hand, id),
         Command::Start { base, how } => start(alloc, state, base, *how),
         Command::Fill { path, value } => fill(alloc, state, path, value),
         Command::SaveDraft => save_draft(alloc, state),
         Command::Finalize => finalize(alloc, state),
-        Command::FinalizeAll => finalize_all(alloc, state),
+        Command::FinalizeAll => finalize_all(alloc, state, hand),
         Command::Leave => leave(alloc, state),
-        Command::DropInstance(number) => drop_instance(state, *number),
+        Command::DropInstance(number) => drop_instance(state, hand, *number),
+        Command::SendBegun { number, .. } => send_begun(state, hand, *number),
+        Command::SendEnded { number, outcome } => send_ended(state, hand, *number, outcome),
         Command::Tick => tick(state),
-        Command::TakeLock(_)
-        | Command::Release(_)
-        | Command::Ask(_)
-        | Command::Fetched { .. }
-        | Command::RoundDone
-        | Command::SendBegun { .. }
-        | Command::SendEnded { .. } => not_built(state),
+        Command::Ask(_) | Command::Fetched { .. } | Command::RoundDone => not_built(state),
     }
 }
 
-fn commanded(alloc: Global, state: &State, command: &Command) -> Result<Parts, Refused>
-    ensures { Makes (plain state.now) result (commanded (plain state.now) command.now) }
+fn commanded(alloc: Global, state: &State, hand: Hand, command: &Command) -> Result<Parts, Refused>
+    ensures { Makes (plain state.now) result (commanded (plain state.now) hand command.now) }
 {
     if !is_within_limits(command) {
         return Err(Refused::BadValue);
     }
-    obeyed(alloc, state, command)
+    obeyed(alloc, state, hand, command)
 }
 
 /// The step of a hand's command, or the first refusal that applies. With `State::reserve`, which takes the room that
@@ -82,7 +84,7 @@ pub fn decide(
     ensures prepared { IfOk result (Prepares (plain state.now) (Entry.Done hand command)) }
     ensures refused { IfErr result (IsRefused (plain state.now) (Entry.Done hand command)) }
 {
-    let parts = commanded(alloc, state, &command)?;
+    let parts = commanded(alloc, state, hand, &command)?;
     Ok(Prepared::new(Entry::Done { hand, command }, parts))
 }
 

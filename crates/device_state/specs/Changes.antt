@@ -20,9 +20,13 @@ use Rattle.device_state.specs.declared.changes.ListChange.TheVariants as lists
 use Rattle.device_state.specs.declared.changes.SavepointChange.{SavepointChange}
 use Rattle.device_state.specs.declared.changes.SavepointChange.TheVariants as savepoints
 use Rattle.device_state.specs.declared.entry.OpenEntry.{OpenEntry}
+use Rattle.device_state.specs.declared.flight.FlightChange.TheVariants as flights
+use Rattle.device_state.specs.declared.holding.LockChange.TheVariants as locks
 use Rattle.device_state.specs.declared.state.Counters.{Counters}
 use Rattle.device_state.specs.declared.state.State.{State}
-use Rattle.device_state.specs.Numbered.{added, dropped, each_replaced, replaced_by}
+use Rattle.device_state.specs.Flights.{flights_changed}
+use Rattle.device_state.specs.Holding.{locks_changed}
+use Rattle.device_state.specs.Numbered.{added, dropped, each_replaced, replaced_by, status_at, tried_at}
 use Rattle.device_state.specs.Purging.{purged}
 use Rattle.device_state.specs.State.{bare}
 
@@ -37,6 +41,8 @@ instances_changed (instances.Add item) kept = added item kept
 instances_changed (instances.Replace item) kept = replaced_by item kept
 instances_changed (instances.Remove number) kept = dropped number kept
 instances_changed (instances.Each items) kept = each_replaced items.items kept
+instances_changed (instances.SetTried number position) kept = tried_at position number kept
+instances_changed (instances.SetStatus number status) kept = status_at status number kept
 
 abbrev pub savepoints_changed : SavepointChange → List Savepoint → List Savepoint
 savepoints_changed savepoints.Keep kept = kept
@@ -69,6 +75,8 @@ counted counters = record {
   savepoints = savepoints.Keep;
   lists = lists.Keep;
   entry = entries.Keep;
+  locks = locks.Keep;
+  flights = flights.Keep;
 }
 
 -- the state with these parts new
@@ -82,6 +90,8 @@ replaced state changes = record {
   savepoints = bare (savepoints_changed changes.savepoints state.savepoints.items);
   lists = bare (lists_changed changes.lists state.lists.items);
   entry = entry_changed changes.entry state.entry;
+  locks = locks_changed changes.locks state.locks;
+  flights = bare (flights_changed changes.flights state.flights.items);
 }
 
 -- and without the hidden forms that nothing names then

@@ -1,5 +1,6 @@
 -- The state of a device before its first entry, how entries are counted, and what of a state the rules see.
 use Rattle.std.specs.Prelude.{ℕ, ◌<◌, [], List, ◌+◌, false, None}
+use Rattle.change_locks.specs.Locks.{all_free}
 use Rattle.field_rows.specs.Kept.{Kept}
 use Rattle.field_text.specs.declared.mode.Mode.TheVariants.{Manual}
 use Rattle.device_state.specs.declared.state.State.{State}
@@ -24,6 +25,8 @@ initial = record {
   savepoints = bare [];
   lists = bare [];
   entry = None;
+  locks = all_free;
+  flights = bare [];
 }
 
 -- The state as the rules see it: the room that its lists have for more is of no account.
@@ -37,6 +40,8 @@ plain state = record {
   savepoints = bare state.savepoints.items;
   lists = bare state.lists.items;
   entry = state.entry;
+  locks = state.locks;
+  flights = bare state.flights.items;
 }
 
 -- there is room for what one entry may add
@@ -45,6 +50,7 @@ pub record HasRoom (state : State) : Type 0 where
   pub instances : 0 < state.instances.spare
   pub savepoints : 0 < state.savepoints.spare
   pub lists : 0 < state.lists.spare
+  pub flights : 0 < state.flights.spare
 
 -- one entry more
 abbrev pub one_further : Counters → Counters

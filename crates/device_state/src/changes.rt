@@ -5,13 +5,16 @@ ghost use Rattle.std.specs.Option.{unwrap_or};
 ghost use Rattle.device_state.specs.Changes.{counted, entry_changed, forms_changed, instances_changed, lists_changed};
 ghost use Rattle.device_state.specs.Changes.{savepoints_changed};
 ghost use Rattle.device_state.specs.Numbered.{added, can_add, dropped, each_replaced, is_below, replaced_by};
+ghost use Rattle.device_state.specs.Numbered.{status_at, tried_at};
 
 use crate::entry::OpenEntry;
+use crate::flight::FlightChange;
+use crate::holding::LockChange;
 use crate::state::{Counters, Settings};
 use entity_lists::{EntityList, EntityLists};
 use field_text::Text;
 use form_store::{FormRec, FormStore};
-use instance_store::{INSTANCE_LIMIT, InstanceRec, InstanceStore};
+use instance_store::{INSTANCE_LIMIT, InstanceRec, InstanceStore, Status};
 use question_rules::Sheet;
 use savepoints::{Key, Savepoint, Savepoints};
 
@@ -35,6 +38,10 @@ pub enum InstanceChange {
     Remove(u64),
     /// Each takes the place of the one with its number.
     Each(Vec<InstanceRec>),
+    /// The entry at this position has sent the one with this number last.
+    SetTried { number: u64, position: u64 },
+    /// The one with this number has this status.
+    SetStatus { number: u64, status: Status },
 }
 
 /// What becomes of the savepoints.
@@ -78,6 +85,8 @@ pub struct Changes {
     pub savepoints: SavepointChange,
     pub lists: ListChange,
     pub entry: EntryChange,
+    pub locks: LockChange,
+    pub flights: FlightChange,
 }
 
 impl Changes {
@@ -94,6 +103,8 @@ impl Changes {
             savepoints: SavepointChange::Keep,
             lists: ListChange::Keep,
             entry: EntryChange::Keep,
+            locks: LockChange::Keep,
+            flights: FlightChange::Keep,
         }
     }
 }
@@ -172,6 +183,22 @@ fn remove(instances: &mut InstanceStore, number: u64)
     }
 }
 
+fn set_tried(instances: &mut InstanceStore, number: u64, position: u64)
+    ensures { instances.new.items ≡ tried_at position number instances.old.items }
+{
+    if let Some(place) = instances.place_of(number) {
+        instances.set_tried(place, position);
+    }
+}
+
+fn set_status(instances: &mut InstanceStore, number: u64, status: Status)
+    ensures { instances.new.items ≡ status_at status number instances.old.items }
+{
+    if let Some(place) = instances.place_of(number) {
+        instances.set_status(place, status);
+    }
+}
+
 impl InstanceChange {
     pub(crate) fn put_into(self, instances: &mut InstanceStore)
         requires { 0 < instances.old.spare }
@@ -183,6 +210,10 @@ impl InstanceChange {
             InstanceChange::Replace(item) => replace(instances, item),
             InstanceChange::Remove(number) => remove(instances, number),
             InstanceChange::Each(items) => replace_each(instances, items),
+            InstanceChange::SetTried { number, position } => {
+                set_tried(instances, number, position)
+            }
+            InstanceChange::SetStatus { number, status } => set_status(instances, number, status),
         }
     }
 }

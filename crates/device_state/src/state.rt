@@ -4,9 +4,12 @@ ghost use Rattle.device_state.specs.State.{HasRoom, initial, one_further, one_mo
 
 use crate::changes::{Changes, put, put_entry};
 use crate::entry::OpenEntry;
+use crate::flight::Flight;
 use crate::forms::purge;
+use change_locks::Locks;
 use entity_lists::EntityLists;
 use field_ids::Draws;
+use field_rows::Rows;
 use field_text::{Mode, NoMemory, Text};
 use form_store::FormStore;
 use instance_store::InstanceStore;
@@ -85,6 +88,9 @@ pub struct State {
     pub lists: EntityLists,
     /// The questionnaire that is being filled in.
     pub entry: Option<OpenEntry>,
+    pub locks: Locks,
+    /// The sends that were begun and not ended.
+    pub flights: Rows<Flight>,
 }
 
 impl State {
@@ -109,6 +115,8 @@ impl State {
             savepoints: Savepoints::make(alloc),
             lists: EntityLists::make(alloc),
             entry: None,
+            locks: Locks::make(),
+            flights: Rows::make(alloc),
         }
     }
 
@@ -120,7 +128,8 @@ impl State {
         self.forms.reserve()?;
         self.instances.reserve()?;
         self.savepoints.reserve()?;
-        self.lists.reserve()
+        self.lists.reserve()?;
+        self.flights.reserve()
     }
 
     /// Puts what an entry changes in its place, and lets go of the hidden forms that nothing names any more. It takes
@@ -138,6 +147,8 @@ impl State {
             savepoints,
             lists,
             entry,
+            locks,
+            flights,
         } = changes;
         put(&mut self.settings, settings);
         put(&mut self.server, server);
@@ -147,6 +158,8 @@ impl State {
         savepoints.put_into(&mut self.savepoints);
         lists.put_into(&mut self.lists);
         put_entry(&mut self.entry, entry);
+        locks.put_into(&mut self.locks);
+        flights.put_into(&mut self.flights);
         purge(
             &mut self.forms,
             &self.instances,

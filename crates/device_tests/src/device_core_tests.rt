@@ -29,7 +29,7 @@ fn opened(alloc: Global, disk: MemDisk) -> Result<Device<MemDisk>, Fail>
     ensures { IfOk result IsReady }
 {
     let opening = own_opening(alloc)?;
-    if !is_opening(&opening) {
+    if !is_opening(alloc, &opening)? {
         return Err("no opening".into());
     }
     match Device::open_device(alloc, disk, opening) {
@@ -154,7 +154,7 @@ static READINGS: [(&[u8], Result<u64, OpenFault>); 8] = [
 // The number of entries that opening finds.
 fn found_in(alloc: Global, disk: MemDisk) -> Result<Result<u64, OpenFault>, Fail> {
     let opening = own_opening(alloc)?;
-    if !is_opening(&opening) {
+    if !is_opening(alloc, &opening)? {
         return Err("no opening".into());
     }
     match Device::open_device(alloc, disk, opening) {

@@ -5,7 +5,7 @@ use field_text::Text;
 pub enum Token {
     /// One to 15 digits.
     Digits(i64),
-    /// A text in single or double quotes, without them.
+    /// What stands between two quotes of one kind.
     Quoted(Text),
     /// `/a/b` or `/a/b/@c`, as it is written.
     Absolute(Text),

@@ -1,3 +1,2 @@
-pub mod Becoming
 pub mod Slashes
 pub mod Spelled

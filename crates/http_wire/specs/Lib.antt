@@ -1,4 +1,2 @@
 pub mod Addresses
 pub mod Requests
-pub mod Exchange
-pub mod Carrying

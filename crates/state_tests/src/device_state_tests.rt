@@ -1,8 +1,10 @@
 ghost use Rattle.std.specs.Prelude.{◌≡◌};
 
+use change_locks::Held;
 use device_state::{
-    Changes, Counters, EntryChange, FormChange, InstanceChange, ListChange, SavepointChange, State,
+    Changes, Counters, Flight, FlightChange, FormChange, LockChange, State, has_flight,
 };
+use entry_form::{Hand, Lock};
 use field_ids::Draws;
 use field_text::{Blob, Text};
 use form_store::FormRec;
@@ -25,14 +27,16 @@ fn form(alloc: Global) -> Result<FormRec, Fail> {
 
 fn with_forms(counters: Counters, forms: FormChange) -> Changes {
     Changes {
-        settings: None,
-        server: None,
-        counters,
         forms,
-        instances: InstanceChange::Keep,
-        savepoints: SavepointChange::Keep,
-        lists: ListChange::Keep,
-        entry: EntryChange::Keep,
+        ..Changes::counted(counters)
+    }
+}
+
+fn with_sends(counters: Counters, locks: LockChange, flights: FlightChange) -> Changes {
+    Changes {
+        locks,
+        flights,
+        ..Changes::counted(counters)
     }
 }
 
@@ -57,6 +61,45 @@ fn check_hiding(rt: &impl Abort, alloc: Global, state: &mut State) -> Result<(),
 fn hidden_forms_that_nothing_names_are_gone(rt: HostRuntime) -> Result<(), Fail> {
     let mut state = State::initial(rt.alloc());
     check_hiding(&rt, rt.alloc(), &mut state)
+}
+
+fn taken() -> LockChange {
+    LockChange::Take {
+        lock: Lock::Instances,
+        held: Held {
+            hand: Hand::Sender,
+            since: 2,
+        },
+    }
+}
+
+fn flight() -> Flight {
+    Flight {
+        hand: Hand::Sender,
+        number: 3,
+    }
+}
+
+fn check_sends(rt: &impl Abort, state: &mut State) -> Result<(), Fail> {
+    let counters = state.counters;
+    let begin = FlightChange::Begin(flight());
+    change(state, with_sends(counters, taken(), begin))?;
+    assert!(rt; state.locks.holder(Lock::Instances).is_some());
+    assert!(rt; has_flight(state.flights.as_slice(), 3));
+    let end = FlightChange::End(flight());
+    change(state, with_sends(counters, LockChange::FreeAll, end))?;
+    assert!(rt; state.locks.holder(Lock::Instances).is_none());
+    assert!(rt; !has_flight(state.flights.as_slice(), 3));
+    Ok(())
+}
+
+#[test]
+fn sends_are_in_flight_until_they_end(rt: HostRuntime) -> Result<(), Fail> {
+    let mut state = State::initial(rt.alloc());
+    check_sends(&rt, &mut state)?;
+    assert!(rt; flight().is_by(Hand::Sender));
+    assert!(rt; !flight().is_flight(Hand::Script, 3));
+    Ok(())
 }
 
 fn fourth() -> Counters

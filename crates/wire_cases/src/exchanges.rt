@@ -3,7 +3,7 @@ use crate::requests::{empty_box, post_of};
 use case_lines::{bytes_of, cut, push_all, push_number};
 use field_io::Stage;
 use field_text::{Blob, NoMemory, Text};
-use http_wire::{Got, exchange};
+use http_exchange::{Got, exchange};
 use rosa_box::BoxDialer;
 use std::alloc::Global;
 

@@ -1,5 +1,6 @@
 use field_io::{MemDialer, Stage};
 use field_text::Text;
+use http_exchange::{Got, exchange};
 use http_wire::*;
 use std::alloc::Global;
 use std::process::Abort;

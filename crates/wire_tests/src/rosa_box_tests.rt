@@ -1,6 +1,6 @@
 use field_io::Stage;
 use field_text::{Blob, Items, Text};
-use http_wire::{Got, exchange};
+use http_exchange::{Got, exchange};
 use rosa_box::*;
 use std::alloc::Global;
 use std::process::Abort;

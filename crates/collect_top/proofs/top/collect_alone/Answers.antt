@@ -2,6 +2,7 @@ use Rattle.std.proofs.Common.{refl, sym}
 use Rattle.device_laws.proofs.FinalHistories.{history_keeps_finals}
 use Rattle.device_laws.proofs.Histories.{history_keeps}
 use Rattle.device_laws.proofs.IdHistories.{history_keeps_ids_apart}
+use Rattle.device_laws.proofs.SendHistories.{history_keeps_sends}
 use Rattle.collect_top.proofs.Headlines.{headline, headline_of_usage}
 use Rattle.collect_top.proofs.top.collect_alone.Goals as goal
 
@@ -40,3 +41,9 @@ returns-in_default-clause-ids g c = history_keeps_ids_apart _
 
 pub returns-clause-ids : goal.returns-clause-ids
 returns-clause-ids g c = history_keeps_ids_apart _
+
+pub returns-in_default-clause-sends : goal.returns-in_default-clause-sends
+returns-in_default-clause-sends g c = history_keeps_sends _
+
+pub returns-clause-sends : goal.returns-clause-sends
+returns-clause-sends g c = history_keeps_sends _
