@@ -18,7 +18,7 @@ use Rattle.device_rules.specs.Limits.{is_within_limits}
 use Rattle.device_rules.specs.Holders.{free_for}
 use Rattle.device_rules.specs.Load.{load, load_by, load_read, put_form, read_form}
 use Rattle.device_rules.specs.NotBuilt.{not_built}
-use Rattle.device_rules.specs.Opened.{is_opening, opened}
+use Rattle.device_rules.specs.Opened.{is_opening, is_server, opened}
 use Rattle.device_rules.specs.Release.{release}
 use Rattle.device_rules.specs.SaveDraft.{counters_after, draft_of, instances_with, name_of, save_draft, saved}
 use Rattle.device_rules.specs.SendBegun.{send_begun, sending}
@@ -165,7 +165,7 @@ opened_apart state opening x is apart =
     came (KeepsApart state) _ _ x (then_ok (not_full state) _ x within.2).2
     (keeps state _ (gone_leaves state.instances.items state.instances.items state.counters.draws _ apart refl
     (λ P all. all) (record {
-      device = small opening.device (and_parts (nat_lt opening.device (2 ^ 48)) (is_some (base_in opening.server))
+      device = small opening.device (and_parts (nat_lt opening.device (2 ^ 48)) (is_server opening.server)
           (allowed (is_opening opening) BadValue within.0 within.1)).0;
       from_one = apart.range.from_one;
       next = apart.range.next;
