@@ -1,3 +1,4 @@
 pub mod Exchanges
 pub mod Sends
 pub mod Rounds
+pub mod Agreement

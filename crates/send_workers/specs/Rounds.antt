@@ -106,10 +106,11 @@ abbrev pub is_not_due : SubmitFault → Bool
 is_not_due (faults.Refused position NothingDue) = true
 is_not_due fault = false
 
--- nothing is left to send, or as many sends were tried as a round tries
-pub data NoneLeft (old mid : RoundView) (sends : List Sending) (refused : ℕ) (sent : HasSent old mid sends refused) : Type 0 where
-  none : IsNext old.caller.start old.caller.hand sent.last mid.caller.trail None → NoneLeft old mid sends refused sent
-  tired : length sends + refused ≡ most_sends → NoneLeft old mid sends refused sent
+-- behind the last send of a round and up to another history nothing is left to send, or as many sends were tried as a
+-- round tries
+pub data NoneLeft (old : RoundView) (sends : List Sending) (refused : ℕ) (last until : List Entry) : Type 0 where
+  none : IsNext old.caller.start old.caller.hand last until None → NoneLeft old sends refused last until
+  tired : length sends + refused ≡ most_sends → NoneLeft old sends refused last until
 
 abbrev pub was_taken : Sending → Bool
 was_taken s = is_taken s.outcome
@@ -120,10 +121,10 @@ pub record HasRun (old new : RoundView) (position good bad : ℕ) : Type 0 where
   pub sends : List Sending
   pub refused : ℕ
   pub sent : HasSent old mid sends refused
-  pub none_left : NoneLeft old mid sends refused sent
   pub on : GoesOn old.caller new.caller
   pub released : List Entry
   pub releases : Comes old.caller.hand sent.last (Release Instances) released
+  pub none_left : NoneLeft old sends refused sent.last releases.before
   pub waits : Waits old.caller.hand released new.caller.trail
   pub gained : GainsAll old.carried new.carried (exchanges_of sends)
   pub place : position ≡ length released
@@ -145,7 +146,7 @@ pub data Stops (old new : RoundView) (fault : SubmitFault) : Type 0 where
       → IsCallFault mid.caller new.caller (SendEnded s.named.number s.outcome) fault → new.carried ≡ mid.carried
       → Stops old new fault
   at_release : (mid : RoundView) (sends : List Sending) (refused : ℕ) → (sent : HasSent old mid sends refused)
-      → NoneLeft old mid sends refused sent → IsCallFault mid.caller new.caller (Release Instances) fault
+      → NoneLeft old sends refused sent.last mid.caller.trail → IsCallFault mid.caller new.caller (Release Instances) fault
       → new.carried ≡ mid.carried → Stops old new fault
 
 -- Memory ran out before a send was begun, or before its exchange.
@@ -225,7 +226,7 @@ pub record AllSent (old new : RoundView) (tally : Tally) : Type 0 where
   pub sends : List Sending
   pub refused : ℕ
   pub sent : HasSent old new sends refused
-  pub none_left : NoneLeft old new sends refused sent
+  pub none_left : NoneLeft old sends refused sent.last new.caller.trail
   pub good_is : tally.good ≡ count_by was_taken sends
   pub bad_is : tally.bad ≡ count_by (λ s. not (was_taken s)) sends
 
