@@ -2,6 +2,7 @@
 use Rattle.std.specs.Prelude.{◌≡◌, ◌⊎◌, ℕ, ◌+◌, ◌<◌, ◌≤◌, List, [], ◌∷◌, ◌++◌, length, drop, map, Option, Result, Ok}
 use Rattle.std.specs.Prelude.{Err}
 use Rattle.field_io.specs.Causes.{Rose}
+use Rattle.entry_form.specs.declared.command.Command.{Command}
 use Rattle.entry_form.specs.declared.entry.Entry.{Entry}
 use Rattle.entry_form.specs.declared.entry.Entry.TheVariants.{Done}
 use Rattle.entry_form.specs.declared.hand.Hand.TheVariants.{Script}
@@ -12,9 +13,10 @@ use Rattle.line_io.specs.Output.{Gained, IsCut}
 use Rattle.line_io.specs.Script.{IsUncut}
 use Rattle.collect_text.specs.Line.{meaning}
 use Rattle.collect_text.specs.declared.line.Line.{Line}
-use Rattle.collect_text.specs.declared.line.Line.TheVariants.{Give}
+use Rattle.collect_text.specs.declared.line.Line.TheVariants.{Give, Send}
 use Rattle.collect_script.specs.declared.stop.ScriptStop.{ScriptStop}
 use Rattle.collect_script.specs.declared.stop.ScriptStop.TheVariants as stops
+use Rattle.collect_script.specs.Rounds.{IsOfRound}
 use Rattle.collect_script.specs.Script.{Reads, GoesOn, Quits, IsWhole, IsTooLong, IsPastLimit}
 use Rattle.collect_script.specs.Transcript.{of_script, MayAdd, AllAnswered, HasPrinted, Transcript}
 
@@ -34,9 +36,13 @@ streams left held source_faults sink_faults =
 abbrev pub ScriptEnd : Type 0
 ScriptEnd = Result (Unit {0}) ScriptStop
 
--- the command of a line doesn't fit a journal of this length
+-- a command's entry doesn't fit a journal of this length
+abbrev pub IsPast : Command → ℕ → Type 0
+IsPast command size = largest_journal < size + 5 + length (spelling (Done Script command))
+
+-- the command of a line doesn't
 abbrev pub IsFullLine : Line → ℕ → Type 0
-IsFullLine (Give command) size = largest_journal < size + 5 + length (spelling (Done Script command))
+IsFullLine (Give command) size = IsPast command size
 IsFullLine line size = ⊥
 
 module _ (start : State) (entries rest : List Entry) (before after : Streams) where
@@ -70,6 +76,10 @@ module _ (start : State) (entries rest : List Entry) (before after : Streams) wh
     starved_at : MayAdd line (of_script (drop last entries)) → of_script rest ≡ [] → Puts text
         → CantAnswer text last line stops.NoMemory
     full : (size : ℕ) → IsFullLine line size → IsSettled last → Puts text
+        → CantAnswer text last line (stops.JournalFull size)
+    -- an entry of its round doesn't fit
+    full_round : (command : Command) (size : ℕ) → line ≡ Send → IsOfRound command → IsPast command size
+        → MayAdd line (of_script (drop last entries)) → of_script rest ≡ [] → Puts text
         → CantAnswer text last line (stops.JournalFull size)
     -- the front of its answer is put
     cut : (position : ℕ) (piece front : List ℕ) → HasPrinted start entries last line position piece

@@ -17,15 +17,17 @@ use Rattle.collect_text.specs.Answers.{printed_answer, printed_word}
 use Rattle.collect_text.specs.Line.{line_shape}
 use Rattle.collect_text.specs.Refusals.{printed_refused}
 use Rattle.collect_text.specs.declared.line.Line.{Line}
-use Rattle.collect_text.specs.declared.line.Line.TheVariants.{Skipped, Bad, NotBuilt, Quit, Look, Give}
+use Rattle.collect_text.specs.declared.line.Line.TheVariants.{Skipped, Bad, NotBuilt, Quit, Send, Look, Give}
+use Rattle.collect_script.specs.Rounds.{IsFrontOfRound, IsRound, IsStoppedRound}
 
 -- the script's commands among the entries
 abbrev pub of_script : List Entry → List Entry
 of_script = of_hand Script
 
--- the entries that a line of the script may add: none, or that of its command
+-- the entries that a line of the script may add: none, that of its command, or some of a round's
 abbrev pub MayAdd : Line → List Entry → Type 0
 MayAdd (Give command) added = (added ≡ []) ⊎ (added ≡ Done Script command ∷ [])
+MayAdd Send added = IsFrontOfRound added
 MayAdd line added = added ≡ []
 
 module _ (start : State) (entries : List Entry) where
@@ -90,6 +92,8 @@ module _ (start : State) (entries : List Entry) where
   HasPrinted last (Give command) position piece =
       IsAccepted last command position piece ⊎ IsRefusedAt last command position piece
   HasPrinted last (Look query) position piece = IsTold last query position piece ⊎ IsUntold last query position piece
+  HasPrinted last Send position piece =
+      IsRound start entries last position piece ⊎ IsStoppedRound start entries last position piece
   HasPrinted last Quit position piece = IsSaid last Quit position piece
   HasPrinted last Bad position piece = IsSaid last Bad position piece
   HasPrinted last NotBuilt position piece = IsSaid last NotBuilt position piece

@@ -1,17 +1,22 @@
 // What one line asks of a caller, and the text that it prints.
-ghost use Rattle.std.specs.Prelude.{◌≡◌, ◌≢◌, IfOk, IfErr};
+ghost use Rattle.std.specs.Prelude.{◌≡◌, ◌≢◌, true, IfOk, IfErr};
 ghost use Rattle.device_rules.specs.Caller.{Looks};
 ghost use Rattle.collect_text.specs.Answers.{IsWord, printed_answer, printed_word};
 ghost use Rattle.collect_text.specs.Line.{line_shape};
 ghost use Rattle.collect_text.specs.Refusals.{printed_refused};
 ghost use Rattle.collect_text.specs.declared.line.Line.{Line};
 ghost use Rattle.collect_script.specs.Answering.{FaultStop, FaultText, Says, SaysNothing, is_no_memory};
+ghost use Rattle.collect_script.specs.Exchanged.{is_plain};
 ghost use Rattle.entry_form.specs.declared.hand.Hand.{Hand};
+ghost use Rattle.send_workers.specs.Agreement.{HasExchanged};
+ghost use Rattle.send_workers.specs.Rounds.{view};
 
-use crate::ScriptStop;
+use crate::round::send;
+use crate::{Hand1, ScriptStop};
 use collect_text::{Line, Shape, print_answer, print_refused, print_word};
-use device_rules::{Caller, Query, Refused, SubmitFault, Told};
+use device_rules::{Caller, Gate, Query, Refused, SubmitFault, Told};
 use entry_form::Command;
+use field_io::{Clock, Dialer};
 use field_text::NoMemory;
 use std::alloc::Global;
 
@@ -39,7 +44,7 @@ fn is_no_memory(why: &Refused) -> bool
 }
 
 // The line of a refusal other than want of memory.
-fn refusal_text(alloc: Global, position: u64, why: &Refused) -> Result<Vec<u8>, NoMemory>
+pub(crate) fn refusal_text(alloc: Global, position: u64, why: &Refused) -> Result<Vec<u8>, NoMemory>
     ensures text { IfOk result (λ text. text.items ≡ printed_refused position why.now) }
     ensures told { IfOk result (λ _. why.now ≢ Refused.NoMemory) }
 {
@@ -63,7 +68,7 @@ fn fault_stop(fault: SubmitFault) -> ScriptStop
 }
 
 // The line of a refusal; any other fault ends the script.
-fn fault_text(alloc: Global, fault: &SubmitFault) -> Result<Vec<u8>, ScriptStop>
+pub(crate) fn fault_text(alloc: Global, fault: &SubmitFault) -> Result<Vec<u8>, ScriptStop>
     ensures text { IfOk result (λ text. FaultText fault.now text.items) }
     ensures stop { IfErr result (FaultStop fault.now) }
 {
@@ -137,15 +142,20 @@ fn give<K: Caller>(
 }
 
 /// What a line prints, made whole before its first byte goes out.
-pub fn line_text<K: Caller>(
+pub fn line_text<K: Caller, N: Dialer, C: Clock, G: Gate>(
     alloc: Global,
     line: Line,
     caller: &mut K,
+    hand: &mut Hand1<N, C>,
+    gate: &mut G,
 ) -> Result<Vec<u8>, ScriptStop>
     requires { (K.seen caller.old).hand ≡ Hand.Script }
     ensures says { IfOk result (λ text. Says (K.seen caller.old) (K.seen caller.new) text.items line) }
     ensures stops { IfErr result (SaysNothing (K.seen caller.old) (K.seen caller.new) line) }
+    ensures exchanged { is_plain line ≡ true → HasExchanged (view (K.seen caller.old) (N.carried hand.old.dialer))
+        (view (K.seen caller.new) (N.carried hand.new.dialer)) }
     ensures leads { K.leads caller.old caller.new }
+    ensures peer { N.peer hand.new.dialer ≡ N.peer hand.old.dialer }
 {
     let shape = match line.shape(alloc) {
         Ok(shape) => shape,
@@ -156,6 +166,7 @@ pub fn line_text<K: Caller>(
         Line::Quit => say(alloc, &Line::Quit, caller),
         Line::Bad => say(alloc, &Line::Bad, caller),
         Line::NotBuilt => say(alloc, &Line::NotBuilt, caller),
+        Line::Send => send(alloc, caller, hand, gate),
         Line::Look(query) => look(alloc, query, &shape, caller),
         Line::Give(command) => give(alloc, command, &shape, caller),
     }

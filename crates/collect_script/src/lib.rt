@@ -2,8 +2,11 @@
 #![tactic(auto)]
 
 mod answer;
+mod hand;
 mod lines;
+mod round;
 mod stop;
 
+pub use hand::Hand1;
 pub use lines::answer_lines;
 pub use stop::ScriptStop;

@@ -9,5 +9,6 @@ pub mod Settings
 pub mod Pieces
 pub mod AnswerRows
 pub mod Answers
+pub mod Rounds
 pub mod Log
 pub mod Refusals

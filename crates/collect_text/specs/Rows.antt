@@ -9,7 +9,7 @@ use Rattle.entry_form.specs.declared.command.Command.TheVariants.{SaveDraft, Tic
 use Rattle.device_rules.specs.declared.answer.Query.TheVariants as queries
 use Rattle.collect_text.specs.Arguments.{with_arguments}
 use Rattle.collect_text.specs.declared.line.Line.{Line}
-use Rattle.collect_text.specs.declared.line.Line.TheVariants.{Quit, NotBuilt, Look, Give}
+use Rattle.collect_text.specs.declared.line.Line.TheVariants.{Quit, NotBuilt, Send, Look, Give}
 use Rattle.collect_text.specs.declared.rows.Asked.{Asked}
 use Rattle.collect_text.specs.declared.rows.Asked.TheVariants as asked
 
@@ -34,7 +34,7 @@ rows =
     ∷ (codes "leave" ∷ [], asked.Leave)
     ∷ (codes "finalize" ∷ [], asked.Finalize)
     ∷ (codes "finalizeall" ∷ [], asked.FinalizeAll)
-    ∷ (codes "send" ∷ [], asked.NotBuilt)
+    ∷ (codes "send" ∷ [], asked.Send)
     ∷ (codes "update" ∷ [], asked.NotBuilt)
     ∷ (codes "lists" ∷ [], asked.NotBuilt)
     ∷ (codes "settle" ∷ [], asked.NotBuilt)
@@ -44,6 +44,7 @@ rows =
 abbrev pub line_of : Asked → Line
 line_of asked.Quit = Quit
 line_of asked.NotBuilt = NotBuilt
+line_of asked.Send = Send
 line_of asked.ShowSettings = Look queries.Settings
 line_of asked.ShowForms = Look queries.Forms
 line_of asked.ShowInstances = Look queries.Instances

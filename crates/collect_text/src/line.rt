@@ -19,6 +19,8 @@ pub enum Line {
     NotBuilt,
     /// The end of the script.
     Quit,
+    /// A round of sending.
+    Send,
     Look(Query),
     Give(Command),
 }

@@ -14,6 +14,7 @@ use std::alloc::Global;
 pub enum Asked {
     Quit,
     NotBuilt,
+    Send,
     ShowSettings,
     ShowForms,
     ShowInstances,
@@ -46,7 +47,7 @@ static ROWS: [(&[&str], Asked); 19] = [
     (&["leave"], Asked::Leave),
     (&["finalize"], Asked::Finalize),
     (&["finalizeall"], Asked::FinalizeAll),
-    (&["send"], Asked::NotBuilt),
+    (&["send"], Asked::Send),
     (&["update"], Asked::NotBuilt),
     (&["lists"], Asked::NotBuilt),
     (&["settle"], Asked::NotBuilt),
@@ -64,6 +65,7 @@ fn line_of(asked: Asked) -> Line
     match asked {
         Asked::Quit => Line::Quit,
         Asked::NotBuilt => Line::NotBuilt,
+        Asked::Send => Line::Send,
         Asked::ShowSettings => Line::Look(Query::Settings),
         Asked::ShowForms => Line::Look(Query::Forms),
         Asked::ShowInstances => Line::Look(Query::Instances),

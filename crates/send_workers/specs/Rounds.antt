@@ -3,9 +3,11 @@ use Rattle.std.specs.Prelude.{◌≡◌, ℕ, zero, suc, ◌+◌, Bool, true, fa
 use Rattle.std.specs.Prelude.{count_by, Option, Some, None, Result, Ok, Err}
 use Rattle.entry_form.specs.declared.command.Command.TheVariants.{TakeLock, Release, SendBegun, SendEnded}
 use Rattle.entry_form.specs.declared.entry.Entry.{Entry}
+use Rattle.entry_form.specs.declared.hand.Hand.{Hand}
 use Rattle.entry_form.specs.declared.hand.Lock.TheVariants.{Instances}
 use Rattle.entry_form.specs.declared.hand.Round.TheVariants.{Send}
 use Rattle.field_io.specs.declared.exchange.Exchange.{Exchange}
+use Rattle.device_state.specs.declared.state.State.{State}
 use Rattle.device_rules.specs.declared.answer.Answer.{Answer}
 use Rattle.device_rules.specs.declared.answer.Answer.TheVariants as answers
 use Rattle.device_rules.specs.declared.answer.NextSend.{NextSend}
@@ -108,9 +110,9 @@ is_not_due fault = false
 
 -- behind the last send of a round and up to another history nothing is left to send, or as many sends were tried as a
 -- round tries
-pub data NoneLeft (old : RoundView) (sends : List Sending) (refused : ℕ) (last until : List Entry) : Type 0 where
-  none : IsNext old.caller.start old.caller.hand last until None → NoneLeft old sends refused last until
-  tired : length sends + refused ≡ most_sends → NoneLeft old sends refused last until
+pub data NoneLeft (start : State) (hand : Hand) (sends : List Sending) (refused : ℕ) (last until : List Entry) : Type 0 where
+  none : IsNext start hand last until None → NoneLeft start hand sends refused last until
+  tired : length sends + refused ≡ most_sends → NoneLeft start hand sends refused last until
 
 abbrev pub was_taken : Sending → Bool
 was_taken s = is_taken s.outcome
@@ -124,7 +126,7 @@ pub record HasRun (old new : RoundView) (position good bad : ℕ) : Type 0 where
   pub on : GoesOn old.caller new.caller
   pub released : List Entry
   pub releases : Comes old.caller.hand sent.last (Release Instances) released
-  pub none_left : NoneLeft old sends refused sent.last releases.before
+  pub none_left : NoneLeft old.caller.start old.caller.hand sends refused sent.last releases.before
   pub waits : Waits old.caller.hand released new.caller.trail
   pub gained : GainsAll old.carried new.carried (exchanges_of sends)
   pub place : position ≡ length released
@@ -146,8 +148,8 @@ pub data Stops (old new : RoundView) (fault : SubmitFault) : Type 0 where
       → IsCallFault mid.caller new.caller (SendEnded s.named.number s.outcome) fault → new.carried ≡ mid.carried
       → Stops old new fault
   at_release : (mid : RoundView) (sends : List Sending) (refused : ℕ) → (sent : HasSent old mid sends refused)
-      → NoneLeft old sends refused sent.last mid.caller.trail → IsCallFault mid.caller new.caller (Release Instances) fault
-      → new.carried ≡ mid.carried → Stops old new fault
+      → NoneLeft old.caller.start old.caller.hand sends refused sent.last mid.caller.trail
+      → IsCallFault mid.caller new.caller (Release Instances) fault → new.carried ≡ mid.carried → Stops old new fault
 
 -- Memory ran out before a send was begun, or before its exchange.
 pub data Starves (old new : RoundView) : Type 0 where
@@ -226,7 +228,7 @@ pub record AllSent (old new : RoundView) (tally : Tally) : Type 0 where
   pub sends : List Sending
   pub refused : ℕ
   pub sent : HasSent old new sends refused
-  pub none_left : NoneLeft old sends refused sent.last new.caller.trail
+  pub none_left : NoneLeft old.caller.start old.caller.hand sends refused sent.last new.caller.trail
   pub good_is : tally.good ≡ count_by was_taken sends
   pub bad_is : tally.bad ≡ count_by (λ s. not (was_taken s)) sends
 
