@@ -18,7 +18,10 @@ const MOST_SENDS: u64 = 10_000;
 #[derive(Debug, Drop)]
 pub enum RoundEnd {
     /// The lock is held, as was said on the state after so many entries.
-    Busy { position: u64, held: Held },
+    Busy {
+        position: u64,
+        held: Held,
+    },
     /// All was done, and the lock was given back by the entry at this position. So many sends were accepted, so many
     /// weren't, and so many forms were hidden.
     Ran {
