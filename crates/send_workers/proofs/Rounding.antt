@@ -1,5 +1,5 @@
 -- What a round's sends come to, and how it ends.
-use Rattle.std.proofs.Common.{◌≡◌, ◌≢◌, ℕ, suc, ◌+◌, ◌-◌, ◌≤◌, ◌<◌, List, [], ◌∷◌, ◌++◌, Bool, true, false, not, cond, count_by, length, Option, Some, None, Result, Ok, Err, refl, ap, sym, ◌∙◌, subst, arith, length-append}
+use Rattle.std.proofs.Common.{◌≡◌, ◌≢◌, ℕ, suc, ◌+◌, ◌-◌, ◌≤◌, List, [], ◌∷◌, ◌++◌, Bool, true, false, not, cond, count_by, length, Option, None, Result, Ok, refl, ap, sym, ◌∙◌, subst, arith, length-append}
 use Rattle.std.proofs.lemmas.List.Sums.{sum_by-append}
 use Rattle.entry_form.specs.declared.command.Command.{Command}
 use Rattle.entry_form.specs.declared.command.Command.TheVariants.{Release}
@@ -15,7 +15,7 @@ use Rattle.send_workers.specs.declared.one_send.Turn.TheVariants as kinds
 use Rattle.send_workers.specs.declared.round.RoundEnd.{RoundEnd}
 use Rattle.send_workers.specs.declared.round.RoundEnd.TheVariants as ends
 use Rattle.send_workers.specs.declared.round.Tally.{Tally}
-use Rattle.send_workers.specs.Sends.{Comes, Sending, Waits}
+use Rattle.send_workers.specs.Sends.{Sending}
 use Rattle.send_workers.specs.Rounds.{AllSent, Fails, HasRun, HasSent, Names, NoneLeft, Rounds, RoundView, Stops, Turned, most_sends, view, was_taken, with_one}
 use Rattle.send_workers.specs.Rounds.NoneLeft.{none, tired}
 use Rattle.send_workers.specs.Rounds.Stops.{at_release}
