@@ -100,7 +100,7 @@ abbrev pub up_to : (hand : Hand) (a b : CallerView) (command : Command) (told : 
     → List Entry
 up_to hand a b command told x = (a.trail ++ x.before) ++ Done hand command ∷ []
 
-before_it : (old a b : CallerView) (command : Command) (told : Told) → a.hand ≡ old.hand
+pub before_it : (old a b : CallerView) (command : Command) (told : Told) → a.hand ≡ old.hand
     → (x : Accepts a b command told) → Waits old.hand a.trail (a.trail ++ x.before)
 before_it old a b command told same x = record {
   others = x.before;
@@ -108,7 +108,7 @@ before_it old a b command told same x = record {
   none = moved (λ (h : Hand). of_hand h x.before ≡ []) old a same x.others_before;
 }
 
-pub comes : (old a b : CallerView) (command : Command) (told : Told) (last : List Entry) → a.hand ≡ old.hand
+abbrev pub comes : (old a b : CallerView) (command : Command) (told : Told) (last : List Entry) → a.hand ≡ old.hand
     → Waits old.hand last a.trail → (x : Accepts a b command told)
     → Comes old.hand last command (up_to old.hand a b command told x)
 comes old a b command told last same waits x = record {
