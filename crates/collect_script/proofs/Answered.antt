@@ -10,6 +10,12 @@ use Rattle.entry_form.specs.declared.hand.Hand.TheVariants.{Script}
 use Rattle.entry_codec.specs.Spelling.{spelling}
 use Rattle.device_rules.specs.Caller.{CallerView, Grows, IsCommand, IsFullAt, LeavesRest, SameRest, of_hand}
 use Rattle.device_rules.specs.Limits.{largest_journal}
+use Rattle.device_rules.specs.declared.refused.Refused.{Refused}
+use Rattle.device_rules.specs.declared.told.SubmitFault.{SubmitFault}
+use Rattle.device_rules.specs.declared.told.SubmitFault.TheVariants as faults
+use Rattle.field_io.specs.declared.exchange.Exchange.{Exchange}
+use Rattle.send_workers.specs.Rounds.{GoesOn, Stops, at_begin, at_end, at_lock, at_look, at_release, view}
+use Rattle.send_workers.proofs.Steps.{on_others, on_then}
 use Rattle.line_io.specs.Output.{Gained, IsCut}
 use Rattle.line_io.proofs.Gains.{gained_then}
 use Rattle.collect_text.specs.Line.{meaning}
@@ -17,48 +23,44 @@ use Rattle.collect_text.specs.declared.line.Line.{Line}
 use Rattle.collect_text.specs.declared.line.Line.TheVariants.{Give}
 use Rattle.collect_script.specs.declared.stop.ScriptStop.{ScriptStop}
 use Rattle.collect_script.specs.declared.stop.ScriptStop.TheVariants as stops
-use Rattle.collect_script.specs.Answering.{LineAnswered, LineStops, Says, SaysNothing, accepts, bad, cut, failed, faulted, full, hides, not_built, quits, refuses, shows, silent, skips, starved}
+use Rattle.collect_script.specs.Answering.{FaultText, LineAnswered, LineStops, Says, SaysNothing, accepts, bad, cut, failed, faulted, full, hides, not_built, quits, refuses, shows, silent, skips, starved, ran, busy, stopped, full_round, faulted_round}
 use Rattle.collect_script.specs.Ends.{CantAnswer, IsFullLine, IsSettled, Puts, Streams}
 use Rattle.collect_script.specs.Ends as ends
+use Rattle.collect_script.specs.Rounds.{IsFrontOfRound}
 use Rattle.collect_script.specs.Transcript.{MayAdd, Transcript, of_script}
+use Rattle.collect_script.proofs.Growing.{grows_none, grows_then}
 use Rattle.collect_script.proofs.Histories.{behind_added, of_script-append, transcript_grow, transcript_then}
-use Rattle.collect_script.proofs.Printing.{IsPrinted, adds_behind, says_printed, settled_on, within_on}
+use Rattle.collect_script.proofs.Printed.{IsPrinted}
+use Rattle.collect_script.proofs.Printing.{adds_behind, says_printed, settled_on, within_on}
 use Rattle.collect_script.proofs.SoFar.{HasAnswered}
-
--- ---- histories grow
-
-pub all_both : (xs ys : List Entry) → AllByRecursion IsCommand xs → AllByRecursion IsCommand ys → AllByRecursion IsCommand (xs ++ ys)
-all_both [] ys p q = q
-all_both (x ∷ xs) ys p q = (p.0, all_both xs ys p.1 q)
-
-pub grows_then : (a b c : CallerView) (xs ys : List Entry) → Grows a b xs → Grows b c ys → Grows a c (xs ++ ys)
-grows_then a b c xs ys f s = record {
-  hand = s.hand ∙ f.hand;
-  start = s.start ∙ f.start;
-  trail = s.trail ∙ ap (λ es. es ++ ys) f.trail ∙ append_assoc a.trail xs ys;
-  commands = all_both xs ys f.commands s.commands;
-  faults = (let p = f.faults in let q = s.faults in omega arith);
-  length = (let p = f.length in let q = s.length in omega arith);
-  refusals = (let p = f.refusals in let q = s.refusals in omega arith);
-  closings = (let p = f.closings in let q = s.closings in omega arith);
-}
-
-pub grows_none : (view : CallerView) → Grows view view []
-grows_none view = record {
-  hand = refl;
-  start = refl;
-  trail = sym (append-nil view.trail);
-  commands = tt;
-  faults = omega arith;
-  length = omega arith;
-  refusals = omega arith;
-  closings = omega arith;
-}
 
 -- what a line adds of all hands
 pub record Moves (old new : CallerView) : Type 0 where
   pub added : List Entry
   pub grows : Grows old new added
+
+on_moves : (old new : CallerView) → GoesOn old new → Moves old new × SameRest old new
+on_moves old new on = (record { added = on.added; grows = on.grows }, on.rest)
+
+-- a round with a refusal
+stopped_by : (old new : CallerView) (c d : Option (List Exchange)) (position : ℕ) (why : Refused)
+    → Stops (view old c) (view new d) (faults.Refused position why) → GoesOn old new
+stopped_by old new c d position why (at_lock free h same) = on_others old new h.others h.rest
+stopped_by old new c d position why (at_look mid sends refused sent h same) =
+    on_then old mid.caller new sent.on (on_others mid.caller new h.looks.others h.looks.rest)
+stopped_by old new c d position why (at_begin mid sends refused named at sent next due h same) =
+    on_then old mid.caller new sent.on (on_others mid.caller new h.others h.rest)
+stopped_by old new c d position why (at_end mid sends refused s carried h same) =
+    on_then old mid.caller new carried.on (on_others mid.caller new h.others h.rest)
+stopped_by old new c d position why (at_release mid sends refused sent none_left h same) =
+    on_then old mid.caller new sent.on (on_others mid.caller new h.others h.rest)
+
+stopped_moves : (old new : CallerView) (c d : Option (List Exchange)) (fault : SubmitFault) (text : List ℕ)
+    → Stops (view old c) (view new d) fault → FaultText fault text → Moves old new × SameRest old new
+stopped_moves old new c d (faults.Refused position why) text h is = on_moves old new (stopped_by old new c d position why h)
+stopped_moves old new c d (faults.Full size) text h is = absurd is
+stopped_moves old new c d faults.DiskFault text h is = absurd is
+stopped_moves old new c d (faults.Failed count) text h is = absurd is
 
 pub says_moves : (old new : CallerView) (line : Line) (text : List ℕ) → Says old new text line → Moves old new × SameRest old new
 says_moves old new line text (skips same none) = subst (λ v. Moves old v × SameRest old v) (sym same) (record { added = []; grows = grows_none old }, refl)
@@ -69,11 +71,16 @@ says_moves old new line text (hides query position why h other printed) = (recor
 says_moves old new line text (quits query told h printed) = (record { added = h.looks.others.added; grows = h.looks.others.grows }, h.looks.rest)
 says_moves old new line text (bad query told h printed) = (record { added = h.looks.others.added; grows = h.looks.others.grows }, h.looks.rest)
 says_moves old new line text (not_built query told h printed) = (record { added = h.looks.others.added; grows = h.looks.others.grows }, h.looks.rest)
+says_moves old new line text (ran c d position good failed_sends run printed) = (record { added = run.on.added; grows = run.on.grows }, run.on.rest)
+says_moves old new line text (busy position since holder h printed) = (record { added = h.others.added; grows = h.others.grows }, h.rest)
+says_moves old new line text (stopped c d fault h is) = stopped_moves old new c d fault text h is
 
 pub nothing_moves : (old new : CallerView) (line : Line) (stop : ScriptStop) → SaysNothing old new line stop → Moves old new
 nothing_moves old new line stop (starved adds) = record { added = adds.added; grows = adds.grows }
 nothing_moves old new line stop (full command size is h) = record { added = h.others.added; grows = h.others.grows }
 nothing_moves old new line stop (faulted command is h) = record { added = h.others.added; grows = h.others.grows }
+nothing_moves old new line stop (full_round command size is adds known length past) = record { added = adds.added; grows = adds.grows }
+nothing_moves old new line stop (faulted_round command is left) = record { added = left.added; grows = left.grows }
 nothing_moves old new line stop (failed adds ne) = record { added = adds.added; grows = adds.grows }
 
 map_more : (lines : List (List ℕ)) (raw : List ℕ) → map meaning (lines ++ raw ∷ []) ≡ map meaning lines ++ meaning raw ∷ []
@@ -120,6 +127,9 @@ module _ (old now next : CallerView) (before mid after : Streams) (lines : List 
     sound = same ∙ so.sound;
   }
 
+  grown_long : (added : List Entry) → Grows now next added → position ≤ length next.trail
+  grown_long added grows = let e = ap length grows.trail in let l = length-append now.trail added in let w = so.within in omega arith
+
   -- why a line isn't answered whole
   cant_say : (line : Line) (stop : ScriptStop) → SaysNothing now next line stop → Puts next.start next.trail next.rest before after text
       → CantAnswer next.start next.trail next.rest before after text position line stop
@@ -135,15 +145,27 @@ module _ (old now next : CallerView) (before mid after : Streams) (lines : List 
       ∙ subst (λ d. of_hand d next.rest ≡ of_hand d now.rest ++ Done d command ∷ []) so.hand h.rest
       ∙ ap (λ es. es ++ Done Script command ∷ []) so.none_left
       )) puts)
+  cant_say line stop (full_round command size is adds known length_is past) puts =
+      ends.full_round command size is known
+      (subst (λ d. largest_journal < size + 5 + length (spelling (Done d command))) so.hand past)
+      (adds_behind now next so.hand position so.within so.settled line adds) (rest_on adds.rest) puts
+  cant_say line stop (faulted_round command is left) puts =
+      let long : position ≤ length next.trail = grown_long left.added left.grows in
+      ends.faulted (subst (λ l. MayAdd l (of_script (drop position (next.trail ++ next.rest)))) (sym is)
+      (subst IsFrontOfRound (sym (
+      ap of_script (drop-append-le position next.trail next.rest long)
+      ∙ of_script-append (drop position next.trail) next.rest
+      ∙ ap (λ es. es ++ of_script next.rest) (ap (λ es. of_script (drop position es)) left.grows.trail
+      ∙ behind_added now.start now.trail left.added position so.within so.settled)
+      ∙ ap (λ es. of_script left.added ++ es) (subst (λ d. of_hand d next.rest ≡ of_hand d now.rest ++ Done d command ∷ []) so.hand left.rest
+      ∙ ap (λ es. es ++ Done Script command ∷ []) so.none_left)
+      )) (subst (λ d. IsFrontOfRound (of_hand d left.added ++ Done d command ∷ [])) so.hand left.own))) puts
   cant_say line stop (failed adds ne) puts =
       let long : position ≤ length next.trail = grown_long adds.added adds.grows in
       ends.faulted (subst (MayAdd line) (sym (
       ap of_script (drop-append-le position next.trail next.rest long) ∙ of_script-append (drop position next.trail) next.rest
       ∙ ap (λ es. of_script (drop position next.trail) ++ es) (rest_on adds.rest) ∙ append-nil (of_script (drop position next.trail))
       )) (adds_behind now next so.hand position so.within so.settled line adds)) puts
-    where
-      grown_long : (added : List Entry) → Grows now next added → position ≤ length next.trail
-      grown_long added grows = let e = ap length grows.trail in let l = length-append now.trail added in let w = so.within in omega arith
 
   pub cant_answer : (line : Line) (stop : ScriptStop) → LineStops now next line mid.held after.held mid.sink_faults after.sink_faults stop
       → CantAnswer next.start next.trail next.rest before after text position line stop
@@ -165,6 +187,9 @@ module _ (old now next : CallerView) (before mid after : Streams) (lines : List 
       full_nothing line stop size (starved adds) is = absurd (cc (is))
       full_nothing line stop size (full command other same h) is = (let e : other ≡ size = cc in sym e) ∙ h.is_length
       full_nothing line stop size (faulted command same h) is = absurd (cc (is))
+      full_nothing line stop size (full_round command other same adds known length_is past) is =
+          (let e : other ≡ size = cc in sym e) ∙ length_is
+      full_nothing line stop size (faulted_round command same left) is = absurd (cc (is))
       full_nothing line stop size (failed adds ne) is = absurd (cc (is))
   stops_full line stop size (cut piece front says is_cut gained rose) is = absurd (cc (is))
 
@@ -176,5 +201,7 @@ module _ (old now next : CallerView) (before mid after : Streams) (lines : List 
       failed_nothing line stop (starved adds) is = absurd (cc (is))
       failed_nothing line stop (full command other same h) is = absurd (cc (is))
       failed_nothing line stop (faulted command same h) is = h.failed
+      failed_nothing line stop (full_round command other same adds known length_is past) is = absurd (cc (is))
+      failed_nothing line stop (faulted_round command same left) is = left.failed
       failed_nothing line stop (failed adds ne) is = ne
   stops_failed line stop (cut piece front says is_cut gained rose) is = absurd (cc (is))

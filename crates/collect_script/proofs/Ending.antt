@@ -15,8 +15,9 @@ use Rattle.collect_script.specs.Answering.{AnswersLines, LineAnswered, LineStops
 use Rattle.collect_script.specs.Ends.{CantAnswer, Ends, IsSettled, Puts, ScriptEnd, Streams, finished, unanswered, unread, starved_at}
 use Rattle.collect_script.specs.Script.{GoesOn, ends_script, is_quit}
 use Rattle.collect_script.specs.Transcript.{MayAdd, of_script}
-use Rattle.collect_script.proofs.Answered.{Moves, answered_more, cant_answer, grows_then, printed_of, stops_failed, stops_full, stops_move, transcript_on}
-use Rattle.collect_script.proofs.Printing.{IsPrinted}
+use Rattle.collect_script.proofs.Answered.{Moves, answered_more, cant_answer, printed_of, stops_failed, stops_full, stops_move, transcript_on}
+use Rattle.collect_script.proofs.Growing.{grows_then}
+use Rattle.collect_script.proofs.Printed.{IsPrinted}
 use Rattle.collect_script.proofs.Saying.{may_none}
 use Rattle.collect_script.proofs.SoFar.{HasAnswered, HasRead, SoFar, input_of, read_all, read_more, read_stops, reads_of}
 

@@ -4,13 +4,18 @@ use Rattle.std.specs.List.{slice_get}
 use Rattle.std.proofs.lemmas.List.{append-nil, drop-append-le, drop_at, take-append-drop, take-append-le, take_all}
 use Rattle.std.proofs.lemmas.List.Elements.{filter-append}
 use Rattle.std.proofs.Math.ListN.{length-drop}
+use Rattle.entry_form.specs.declared.command.Command.TheVariants.{TakeLock}
 use Rattle.entry_form.specs.declared.entry.Entry.{Entry}
+use Rattle.entry_form.specs.declared.hand.Round.TheVariants as rounds
 use Rattle.entry_form.specs.declared.hand.Hand.TheVariants.{Script}
 use Rattle.device_state.specs.declared.state.State.{State}
+use Rattle.device_rules.specs.declared.refused.Refused.{Refused}
 use Rattle.device_rules.specs.Caller.{is_of}
 use Rattle.device_rules.specs.Trail.{replay}
 use Rattle.collect_text.specs.declared.line.Line.{Line}
-use Rattle.collect_text.specs.declared.line.Line.TheVariants.{Skipped, Bad, NotBuilt, Quit, Look, Give}
+use Rattle.collect_text.specs.declared.line.Line.TheVariants.{Skipped, Bad, NotBuilt, Quit, Send, Look, Give}
+use Rattle.collect_script.specs.Rounds.{IsAmid, IsRefusedBehind, at_begin, at_end, at_lock, at_look, at_release}
+use Rattle.send_workers.specs.Sends.{Comes, Waits}
 use Rattle.collect_script.specs.Transcript.{of_script, AllAnswered, Follows, HasPrinted, IsStateAt, Transcript}
 
 -- ---- entries of the script among those of all hands
@@ -27,7 +32,7 @@ none_right [] ys none = none
 none_right (x ∷ xs) ys none = absurd (cc (none))
 
 -- where none of the entries is the script's, none of the first is, and none behind them
-none_taken : (n : ℕ) (xs : List Entry) → of_script xs ≡ [] → of_script (take n xs) ≡ []
+pub none_taken : (n : ℕ) (xs : List Entry) → of_script xs ≡ [] → of_script (take n xs) ≡ []
 none_taken n xs none = none_left (of_script (take n xs)) (of_script (drop n xs)) (sym (of_script-append (take n xs) (drop n xs)) ∙ ap of_script (take-append-drop n xs) ∙ none)
 
 none_dropped : (n : ℕ) (xs : List Entry) → of_script xs ≡ [] → of_script (drop n xs) ≡ []
@@ -83,6 +88,31 @@ module _ (start : State) (entries more : List Entry) where
   slice_get-grow (y ∷ xs) ys zero x h = h
   slice_get-grow (y ∷ xs) ys (suc i) x h = slice_get-grow xs ys i x h
 
+  longer : (position : ℕ) → position ≤ length entries → position ≤ length (entries ++ more)
+  longer position within = let e = length-append entries more in omega (arith, e, within)
+
+  front_grow : (position : ℕ) → position ≤ length entries → take position (entries ++ more) ≡ take position entries
+  front_grow position within = take-append-le position entries more within
+
+  amid_grow : (earlier reached : List Entry) → IsAmid start entries earlier reached
+      → IsAmid start (entries ++ more) earlier reached
+  amid_grow earlier reached x = record { taken = x.taken; takes = x.takes; sends = x.sends; are_sent = x.are_sent }
+
+  refused_same : (earlier reached : List Entry) (old : State) (why : Refused)
+      → IsRefusedBehind start entries earlier reached old why → IsRefusedBehind start (entries ++ more) earlier reached old why
+  refused_same earlier reached old why (at_lock same stepped) = at_lock same stepped
+  refused_same earlier reached old why (at_look x told) = at_look (amid_grow earlier reached x) told
+  refused_same earlier reached old why (at_begin number at x stepped) = at_begin number at (amid_grow earlier reached x) stepped
+  refused_same earlier reached old why (at_end named at outcome before x begins stepped) =
+      at_end named at outcome before (amid_grow earlier before x) begins stepped
+  refused_same earlier reached old why (at_release x stepped) = at_release (amid_grow earlier reached x) stepped
+
+  refused_grow : (earlier later reached : List Entry) (old : State) (why : Refused) → earlier ≡ later
+      → IsRefusedBehind start entries earlier reached old why → IsRefusedBehind start (entries ++ more) later reached old why
+  refused_grow earlier later reached old why same x =
+      subst (λ (es : List Entry). IsRefusedBehind start (entries ++ more) es reached old why) same
+      (refused_same earlier reached old why x)
+
   printed_grow : (last : ℕ) (line : Line) (position : ℕ) (piece : List ℕ) → HasPrinted start entries last line position piece → HasPrinted start (entries ++ more) last line position piece
   printed_grow last Skipped position piece h = h
   printed_grow last (Give command) position piece (inl h) = inl (record {
@@ -119,6 +149,36 @@ module _ (start : State) (entries more : List Entry) where
     why = h.why;
     state = state_grow position h.old h.follows.within h.state;
     refused = h.refused;
+    printed = h.printed;
+  })
+  printed_grow last Send position piece (inl h) = inl (record {
+    no_lower = h.no_lower;
+    within = longer position h.within;
+    taken = h.taken;
+    takes = subst (λ (es : List Entry). Comes Script es (TakeLock rounds.Send) h.taken)
+        (sym (front_grow last (let l = h.no_lower in let w = h.within in omega (arith, l, w)))) h.takes;
+    sends = h.sends;
+    sent = h.sent;
+    are_sent = h.are_sent;
+    releases = record {
+      before = h.releases.before;
+      waits = h.releases.waits;
+      joined = front_grow position h.within ∙ h.releases.joined;
+    };
+    refused = h.refused;
+    none_left = h.none_left;
+    printed = h.printed;
+  })
+  printed_grow last Send position piece (inr h) = inr (record {
+    no_lower = h.no_lower;
+    within = longer position h.within;
+    reached = h.reached;
+    waits = subst (Waits Script h.reached) (sym (front_grow position h.within)) h.waits;
+    old = h.old;
+    state = state_grow position h.old h.within h.state;
+    why = h.why;
+    refused = refused_grow (take last entries) (take last (entries ++ more)) h.reached h.old h.why
+        (sym (front_grow last (let l = h.no_lower in let w = h.within in omega (arith, l, w)))) h.refused;
     printed = h.printed;
   })
   printed_grow last Quit position piece h = record { follows = follows_grow last position h.follows; printed = h.printed }

@@ -1,6 +1,14 @@
 pub mod Answered
 pub mod Ending
+pub mod Exchanging
+pub mod Growing
+pub mod OwnSends
+pub mod Plain
 pub mod Histories
+pub mod Printed
 pub mod Printing
+pub mod RoundEnds
+pub mod RoundEntries
+pub mod RoundPrinted
 pub mod Saying
 pub mod SoFar

@@ -21,47 +21,16 @@ use Rattle.device_rules.specs.Refused.{rule_of}
 use Rattle.device_rules.specs.Step.{step, IsRefused}
 use Rattle.device_rules.specs.Trail.{replay}
 use Rattle.collect_text.specs.declared.line.Line.{Line}
-use Rattle.collect_text.specs.declared.line.Line.TheVariants.{Skipped, Bad, NotBuilt, Quit, Look, Give}
-use Rattle.collect_script.specs.Answering.{Adds, Says, skips, accepts, refuses, shows, hides, quits, bad, not_built}
+use Rattle.collect_text.specs.declared.line.Line.TheVariants.{Skipped, Bad, NotBuilt, Quit, Send, Look, Give}
+use Rattle.collect_script.specs.Answering.{Adds, Says, skips, accepts, refuses, shows, hides, quits, bad, not_built, ran, busy, stopped}
 use Rattle.collect_script.specs.Transcript.{of_script, MayAdd, AllAnswered, Follows, HasPrinted, IsStateAt}
+use Rattle.collect_script.proofs.RoundPrinted.{lock_printed, ran_printed, stopped_printed}
+use Rattle.collect_script.proofs.Printed.{IsPrinted, told_by_rules}
 use Rattle.collect_script.proofs.Histories.{answered_grow, answered_later, behind_added, follows_grow, follows_quiet, slice_get_middle}
 
 -- what is behind the front of a history, where nothing of the script's is in the front
 follows_in : (start : State) (front more : List Entry) (last : ℕ) → last ≤ length front → AllAnswered start front last → Follows start (front ++ more) last (length front)
 follows_in start front more last low quiet = follows_grow start front more last (length front) (follows_quiet start front last (length front) low (omega arith) quiet)
-
--- a refusal other than want of memory is the rules'
-told_by_rules : {T : Type 0} (why : Refused) (result : Result T Refused) → why ≢ refusals.NoMemory → Tells (rule_of why) result → result ≡ Err why
-told_by_rules refusals.BadValue result other tells = tells
-told_by_rules (refusals.Busy hand since) result other tells = tells
-told_by_rules (refusals.NotHolder holder) result other tells = tells
-told_by_rules refusals.NothingDue result other tells = tells
-told_by_rules refusals.NoForm result other tells = tells
-told_by_rules refusals.NoVersion result other tells = tells
-told_by_rules refusals.NoInstance result other tells = tells
-told_by_rules refusals.NoEntry result other tells = tells
-told_by_rules refusals.EntryThere result other tells = tells
-told_by_rules refusals.SavepointThere result other tells = tells
-told_by_rules refusals.NoSavepoint result other tells = tells
-told_by_rules (refusals.WrongStatus status) result other tells = tells
-told_by_rules (refusals.HasEdit number) result other tells = tells
-told_by_rules (refusals.InUse number) result other tells = tells
-told_by_rules (refusals.Answer why) result other tells = tells
-told_by_rules (refusals.FormRefused why) result other tells = tells
-told_by_rules (refusals.NotFinal why) result other tells = tells
-told_by_rules (refusals.OtherBytes kept new) result other tells = tells
-told_by_rules (refusals.Limit which number) result other tells = tells
-told_by_rules refusals.NotInFlight result other tells = tells
-told_by_rules (refusals.InFlight number) result other tells = tells
-told_by_rules refusals.NoMemory result other tells = absurd (other refl)
-told_by_rules refusals.NotBuilt result other tells = tells
-
--- the line has printed its text at a position behind which nothing of the script's is
-pub record IsPrinted (view : CallerView) (last : ℕ) (line : Line) (text : List ℕ) : Type 0 where
-  pub position : ℕ
-  pub within : position ≤ length view.trail
-  pub printed : HasPrinted view.start view.trail last line position text
-  pub settled : AllAnswered view.start view.trail position
 
 module _ (old new : CallerView) (hand : old.hand ≡ Script) (last : ℕ) (within : last ≤ length old.trail) (settled : AllAnswered old.start old.trail last) where
   script_only : (entries xs : List Entry) → of_hand old.hand entries ≡ xs → of_script entries ≡ xs
@@ -171,6 +140,11 @@ module _ (old new : CallerView) (hand : old.hand ≡ Script) (last : ℕ) (withi
         refused = told_by_rules why _ other (subst (λ d. Tells (rule_of why) (answer_to h.state d query)) hand h.refused);
         printed = printed;
       }))
+  says_printed Send text (ran c d position good failed_sends run printed) =
+      ran_printed old new hand last within settled c d position good failed_sends run text printed
+  says_printed Send text (busy position since holder h printed) =
+      lock_printed old new hand last within settled position (refusals.Busy holder since) text (λ e. absurd (cc e)) h printed
+  says_printed Send text (stopped c d fault h is) = stopped_printed old new hand last within settled c d fault text h is
   says_printed Quit text (quits query told h printed) = shown_at query told h Quit text (record { follows = shown_follows query told h; printed = printed })
   says_printed Bad text (bad query told h printed) = shown_at query told h Bad text (record { follows = shown_follows query told h; printed = printed })
   says_printed NotBuilt text (not_built query told h printed) = shown_at query told h NotBuilt text (record { follows = shown_follows query told h; printed = printed })

@@ -13,10 +13,11 @@ use Rattle.device_rules.specs.declared.told.Told.{Told}
 use Rattle.device_rules.specs.Caller.{CallerView, Accepts, AddsOthers, IsCallFault, IsLookFault, SameRest, Shows, is_of, of_hand}
 use Rattle.collect_text.specs.Answers.{IsWord, printed_word}
 use Rattle.collect_text.specs.declared.line.Line.{Line}
-use Rattle.collect_text.specs.declared.line.Line.TheVariants.{Skipped, Bad, NotBuilt, Quit, Look, Give}
+use Rattle.collect_text.specs.declared.line.Line.TheVariants.{Skipped, Bad, NotBuilt, Quit, Send, Look, Give}
 use Rattle.collect_script.specs.declared.stop.ScriptStop.{ScriptStop}
 use Rattle.collect_script.specs.declared.stop.ScriptStop.TheVariants as stops
 use Rattle.collect_script.specs.Answering.{Adds, FaultStop, FaultText, Says, SaysNothing, refuses, hides, quits, bad, not_built, starved, full, faulted, failed}
+use Rattle.collect_script.specs.Rounds.{IsFrontOfRound, round_entries}
 use Rattle.collect_script.specs.Transcript.{MayAdd}
 
 pub if_err : {T E : Type 0} (result : Result T E) (P Q : E → Type 0) → ((e : E) → P e → Q e) → IfErr result P → IfErr result Q
@@ -33,11 +34,12 @@ may_none Skipped added none = none
 may_none Quit added none = none
 may_none Bad added none = none
 may_none NotBuilt added none = none
+may_none Send added none = subst IsFrontOfRound (sym none) (record { sends = []; more = round_entries []; joined = refl })
 may_none (Look query) added none = none
 may_none (Give command) added none = inl none
 
 -- the script's one entry among others
-own_alone : (before after : List Entry) (command : Command) → of_hand Script before ≡ [] → of_hand Script after ≡ []
+pub own_alone : (before after : List Entry) (command : Command) → of_hand Script before ≡ [] → of_hand Script after ≡ []
     → of_hand Script (before ++ Done Script command ∷ after) ≡ Done Script command ∷ []
 own_alone before after command none_before none_after =
     filter-append (is_of Script) before (Done Script command ∷ after) ∙ ap (λ xs. xs ++ (Done Script command ∷ of_hand Script after)) none_before
@@ -50,6 +52,7 @@ word_says old new query told Quit text word h printed = quits query told h print
 word_says old new query told Bad text word h printed = bad query told h printed
 word_says old new query told NotBuilt text word h printed = not_built query told h printed
 word_says old new query told Skipped text word h printed = absurd word
+word_says old new query told Send text word h printed = absurd word
 word_says old new query told (Look other) text word h printed = absurd word
 word_says old new query told (Give command) text word h printed = absurd word
 

@@ -1,5 +1,5 @@
 // The line that has a round of sending made.
-ghost use Rattle.std.specs.Prelude.{◌≡◌, IfOk, IfErr};
+ghost use Rattle.std.specs.Prelude.{◌≡◌, Ok, IfOk, IfErr};
 ghost use Rattle.collect_text.specs.Rounds.{printed_round};
 ghost use Rattle.collect_text.specs.declared.line.Line.{Line};
 ghost use Rattle.collect_script.specs.Answering.{RoundStop, RoundText, Says, SaysNothing};
@@ -26,7 +26,7 @@ fn ran_text(alloc: Global, position: u64, good: u64, bad: u64) -> Result<Vec<u8>
 }
 
 fn or_stop(text: Result<Vec<u8>, NoMemory>) -> Result<Vec<u8>, ScriptStop>
-    ensures text { IfOk result (λ made. text ≡ Result.Ok made) }
+    ensures text { IfOk result (λ made. text ≡ Ok made) }
     ensures stop { IfErr result (λ stop. stop ≡ ScriptStop.NoMemory) }
 {
     match text {
