@@ -8,6 +8,7 @@ use Rattle.http_uri.specs.Grammar.{IsAbsoluteForm, IsAuthority, IsScheme, MayFol
 use Rattle.http_uri.specs.Uri.{Spells}
 use Rattle.http_wire.specs.Addresses.{base_of}
 use Rattle.http_wire.specs.Addresses.HasAddress.{of_uri}
+use Rattle.device_rules.specs.Opened.{is_server}
 use Rattle.wire_laws.specs.Bases.{base_in}
 use Rattle.wire_laws.proofs.BaseLaws.{one_base}
 
@@ -85,5 +86,8 @@ spells = (
   },
 )
 
-pub default_has_base : is_some (base_in text) ≡ true
+default_has_base : is_some (base_in text) ≡ true
 default_has_base = ap is_some (sym (one_base text (base_of uri) (of_uri uri spells)))
+
+pub default_is_server : is_server text ≡ true
+default_is_server = default_has_base

@@ -73,6 +73,10 @@ fn taken() -> LockChange {
     }
 }
 
+fn all_freed() -> LockChange {
+    LockChange::FreeAll
+}
+
 fn flight() -> Flight {
     Flight {
         hand: Hand::Sender,
@@ -80,14 +84,23 @@ fn flight() -> Flight {
     }
 }
 
-fn check_sends(rt: &impl Abort, state: &mut State) -> Result<(), Fail> {
+fn begin_send(state: &mut State) -> Result<(), Fail> {
     let counters = state.counters;
     let begin = FlightChange::Begin(flight());
-    change(state, with_sends(counters, taken(), begin))?;
+    change(state, with_sends(counters, taken(), begin))
+}
+
+fn end_send(state: &mut State) -> Result<(), Fail> {
+    let counters = state.counters;
+    let end = FlightChange::End(flight());
+    change(state, with_sends(counters, all_freed(), end))
+}
+
+fn check_sends(rt: &impl Abort, state: &mut State) -> Result<(), Fail> {
+    begin_send(state)?;
     assert!(rt; state.locks.holder(Lock::Instances).is_some());
     assert!(rt; has_flight(state.flights.as_slice(), 3));
-    let end = FlightChange::End(flight());
-    change(state, with_sends(counters, LockChange::FreeAll, end))?;
+    end_send(state)?;
     assert!(rt; state.locks.holder(Lock::Instances).is_none());
     assert!(rt; !has_flight(state.flights.as_slice(), 3));
     Ok(())
