@@ -32,4 +32,3 @@ grows_none view = record {
   refusals = omega arith;
   closings = omega arith;
 }
-

@@ -176,6 +176,7 @@ module _ (old new : CallerView) (is_script : old.hand ≡ Script) (last : ℕ) (
             let e = ap length reached.on.grows.trail in
             let l = length-append old.trail reached.on.added in
             omega (arith, e, l)
+
         settled_mid : AllAnswered new.start new.trail (length mid.trail)
         settled_mid = ap of_script (ap (drop (length mid.trail)) others.grows.trail
             ∙ drop_at mid.trail others.added (length mid.trail) refl) ∙ none_added

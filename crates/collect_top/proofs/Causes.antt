@@ -48,6 +48,7 @@ module _ (start : State) (entries rest : List Entry) (before after : Streams) wh
 
   unanswered_source : (text : List ℕ) (last : ℕ) (line : Line) (stop : ScriptStop) → CantAnswer start entries rest before after text last line stop → stop ≡ script.ReadFault → ⊥
   unanswered_source text last line stop (ends.faulted may puts) is = cc (is)
+  unanswered_source text last line stop (ends.full_round command size line_is known past may none puts) is = cc (is)
   unanswered_source text last line stop (ends.starved_at may none puts) is = cc (is)
   unanswered_source text last line stop (ends.full size past settled puts) is = cc (is)
   unanswered_source text last line stop (ends.cut position piece front printed settled is_cut gained rose) is = cc (is)
@@ -55,6 +56,7 @@ module _ (start : State) (entries rest : List Entry) (before after : Streams) wh
   unanswered_sink : (text : List ℕ) (last : ℕ) (line : Line) (stop : ScriptStop) → CantAnswer start entries rest before after text last line stop → stop ≡ script.WriteFault
       → Rose before.sink_faults after.sink_faults
   unanswered_sink text last line stop (ends.faulted may puts) is = absurd (cc (is))
+  unanswered_sink text last line stop (ends.full_round command size line_is known past may none puts) is = absurd (cc (is))
   unanswered_sink text last line stop (ends.starved_at may none puts) is = absurd (cc (is))
   unanswered_sink text last line stop (ends.full size past settled puts) is = absurd (cc (is))
   unanswered_sink text last line stop (ends.cut position piece front printed settled is_cut gained rose) is = rose
@@ -111,6 +113,7 @@ module _ (start : State) (entries rest : List Entry) (before after : Streams) wh
     unanswered_within : (text : List ℕ) (last : ℕ) (line : Line) (stop : ScriptStop) → CantAnswer start entries rest before after text last line stop
         → (stop ≢ script.LineTooLong) × (stop ≢ script.ScriptTooLong)
     unanswered_within text last line stop (ends.faulted may puts) = (λ e. cc (e), λ e. cc (e))
+    unanswered_within text last line stop (ends.full_round command size line_is known past may none puts) = (λ e. cc (e), λ e. cc (e))
     unanswered_within text last line stop (ends.starved_at may none puts) = (λ e. cc (e), λ e. cc (e))
     unanswered_within text last line stop (ends.full size past settled puts) = (λ e. cc (e), λ e. cc (e))
     unanswered_within text last line stop (ends.cut position piece front printed settled is_cut gained rose) = (λ e. cc (e), λ e. cc (e))

@@ -4,3 +4,4 @@ pub mod Headlines
 pub mod Logs
 pub mod Over
 pub mod Runs
+pub mod Transmitting

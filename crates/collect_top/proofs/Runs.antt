@@ -24,7 +24,7 @@ use Rattle.device_core.specs.View.{DeviceView, IsOpened}
 use Rattle.device_core.proofs.Crashes.{leaves_then, length-entries}
 use Rattle.collect_script.specs.declared.stop.ScriptStop.{ScriptStop}
 use Rattle.collect_script.specs.declared.stop.ScriptStop.TheVariants as script
-use Rattle.collect_script.specs.Ends.{AnswersScript, CantAnswer, Ends, ScriptEnd, Streams, cut, faulted, finished, full, starved_at, unanswered, unread}
+use Rattle.collect_script.specs.Ends.{AnswersScript, CantAnswer, Ends, ScriptEnd, Streams, cut, faulted, finished, full, full_round, starved_at, unanswered, unread}
 use Rattle.collect_script.specs.Transcript.{of_script}
 use Rattle.collect_script.proofs.Histories.{slice_get-grow, slice_get_middle}
 use Rattle.collect_top.specs.declared.stop.Stop.TheVariants.{Opening, Script, Usage}
@@ -113,6 +113,7 @@ cant_rest : (start : _) (entries rest : List Entry) (before after : Streams) (te
 cant_rest start entries rest before after text last line stop (faulted may puts) = inr refl
 cant_rest start entries rest before after text last line stop (starved_at may none puts) = inl none
 cant_rest start entries rest before after text last line stop (full size past settled puts) = inl settled.none_left
+cant_rest start entries rest before after text last line stop (full_round command size is known past may none puts) = inl none
 cant_rest start entries rest before after text last line stop (cut position piece front printed settled is_cut gained rose) = inl settled.none_left
 
 ends_rest : (start : _) (entries rest : List Entry) (before after : Streams) (answered : List (List ℕ)) (text : List ℕ) (last : ℕ) (end : ScriptEnd)

@@ -7,4 +7,5 @@ pub mod Parts
 pub mod Run
 pub mod Status
 pub mod Stop
+pub mod Transmissions
 pub mod Words

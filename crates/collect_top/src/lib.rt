@@ -9,8 +9,9 @@ mod stop;
 mod top;
 mod words;
 
+pub use collect_script::Hand1;
 pub use output::put_fault;
 pub use shown::{check_text, put_text};
 pub use stop::Stop;
-pub use top::{Done, Hand1, Hands, collect_alone};
+pub use top::{Done, Hands, collect_alone};
 pub use words::{Work, work_of};

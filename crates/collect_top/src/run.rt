@@ -2,22 +2,24 @@
 ghost use Rattle.std.specs.Prelude.{◌≡◌, [], IfOk, IsTrue, List, Option, ℕ, Err};
 ghost use Rattle.device_state.specs.State.{initial};
 ghost use Rattle.device_rules.specs.Opened.{is_opening};
+ghost use Rattle.device_rules.specs.Trail.{entries_of};
 ghost use Rattle.device_core.specs.View.{IsReady};
 ghost use Rattle.collect_script.specs.Ends.{streams};
 ghost use Rattle.collect_top.specs.Outside.{Images};
 ghost use Rattle.collect_top.specs.Parts.{own_opening};
 ghost use Rattle.collect_top.specs.Run.{AnswersOver, Closed, HasRun, ShowsOver};
 ghost use Rattle.collect_top.specs.Stop.{end_of_script};
+ghost use Rattle.collect_top.specs.Transmissions.{Transmits, Transmitted};
 
 use crate::log::log_text;
 use crate::{Stop, Work, check_text, put_text};
-use collect_script::{ScriptStop, answer_lines};
+use collect_script::{Hand1, ScriptStop, answer_lines};
 use device_core::{Device, DeviceCaller, OpenFault};
-use device_rules::Trail;
+use device_rules::{Gate, Place, Trail};
 use device_state::State;
 use disk_model::Disk;
-use entry_form::{Entry, Opening};
-use field_io::{Sink, Source};
+use entry_form::{Entry, Hand, Opening};
+use field_io::{Clock, Dialer, Sink, Source};
 use field_text::{Items, NoMemory, Text};
 use std::alloc::Global;
 
@@ -46,6 +48,14 @@ pub fn no_trail(alloc: Global) -> Trail
     }
 }
 
+/// A gate at which nobody waits.
+#[derive(Drop)]
+struct StillGate;
+
+impl Gate for StillGate {
+    fn turn(&mut self, _: Hand, _: Place) {}
+}
+
 // What this program opens the device with.
 fn opening(alloc: Global) -> Result<Opening, NoMemory>
     ensures opening { IfOk result (λ opening. Entry.Opened opening ≡ own_opening) }
@@ -65,20 +75,24 @@ fn close<D: Disk>(alloc: Global, device: Device<D>, end: Result<(), ScriptStop>)
     Worked { disk, trail, end }
 }
 
-fn answer_script<D: Disk, So: Source, Si: Sink>(
+fn answer_script<D: Disk, So: Source, Si: Sink, N: Dialer, C: Clock>(
     alloc: Global,
     source: &mut So,
     sink: &mut Si,
     device: Device<D>,
+    hand: &mut Hand1<N, C>,
 ) -> Worked<D>
     requires { IsReady device }
-    ensures { AnswersOver (record { clock = D.clock; may = D.may; since = D.since }) D.faults device
+    ensures answers { AnswersOver (record { clock = D.clock; may = D.may; since = D.since }) D.faults device
         (streams (So.left source.old) (Si.held sink.old) (So.faults source.old) (Si.faults sink.old))
         (streams (So.left source.new) (Si.held sink.new) (So.faults source.new) (Si.faults sink.new))
         result.disk result.trail result.end }
+    ensures transmitted { Transmitted (entries_of device.entries) (entries_of result.trail.entries)
+        (N.carried hand.old.dialer) (N.carried hand.new.dialer) }
+    ensures peer { N.peer hand.new.dialer ≡ N.peer hand.old.dialer }
 {
     let mut caller = DeviceCaller::new(device);
-    let end = answer_lines(alloc, source, &mut caller, sink);
+    let end = answer_lines(alloc, source, &mut caller, sink, hand, &mut StillGate);
     close(alloc, caller.into_device(), end)
 }
 
@@ -142,17 +156,21 @@ fn as_ran<D>(worked: Worked<D>) -> Ran<D>
 }
 
 /// Opens the device, and does the work.
-pub fn run<So: Source, Si: Sink, D: Disk>(
+pub fn run<So: Source, Si: Sink, D: Disk, N: Dialer, C: Clock>(
     alloc: Global,
     work: Work,
     source: &mut So,
     sink: &mut Si,
     disk: D,
+    hand: &mut Hand1<N, C>,
 ) -> Ran<D>
-    ensures { HasRun (record { clock = D.clock; may = D.may; since = D.since }) D.content D.faults work disk result.disk
+    ensures ran { HasRun (record { clock = D.clock; may = D.may; since = D.since }) D.content D.faults work disk result.disk
         (streams (So.left source.old) (Si.held sink.old) (So.faults source.old) (Si.faults sink.old))
         (streams (So.left source.new) (Si.held sink.new) (So.faults source.new) (Si.faults sink.new))
         result.trail result.end }
+    ensures transmissions { Transmits (entries_of result.trail.entries) (N.carried hand.old.dialer)
+        (N.carried hand.new.dialer) }
+    ensures peer { N.peer hand.new.dialer ≡ N.peer hand.old.dialer }
 {
     let opening = match opening(alloc) {
         Ok(opening) => opening,
@@ -163,7 +181,7 @@ pub fn run<So: Source, Si: Sink, D: Disk>(
         Err((disk, fault)) => return unopened(alloc, disk, fault),
     };
     match work {
-        Work::Run => as_ran(answer_script(alloc, source, sink, device)),
+        Work::Run => as_ran(answer_script(alloc, source, sink, device, hand)),
         Work::Log => as_ran(print_log(alloc, sink, device)),
         Work::Check => as_ran(print_counts(alloc, sink, device)),
     }

@@ -9,23 +9,17 @@ ghost use Rattle.collect_top.specs.Headline.{Headline};
 ghost use Rattle.collect_top.specs.Outside.{Images};
 ghost use Rattle.collect_top.specs.Parts.{PutsStop};
 ghost use Rattle.collect_top.specs.Stop.{end_status};
+ghost use Rattle.collect_top.specs.Transmissions.{Transmits};
 ghost use Rattle.collect_top.specs.Words.{work_of};
 
 use crate::run::{Ran, no_trail, run};
 use crate::{Stop, put_fault, work_of};
-use collect_script::ScriptStop;
+use collect_script::{Hand1, ScriptStop};
 use device_rules::Trail;
 use disk_model::Disk;
 use field_io::{Clock, Dialer, Failed, Sink, Source};
 use field_text::Text;
 use std::alloc::Global;
-
-/// The dialer and the clock of one hand.
-#[derive(Debug, Drop)]
-pub struct Hand1<N, C> {
-    pub dialer: N,
-    pub clock: C,
-}
 
 /// The devices of each hand.
 #[derive(Debug, Drop)]
@@ -76,8 +70,8 @@ fn finish<Si: Sink>(sink: &mut Si, end: Result<(), Stop>) -> u8
 }
 
 /// Runs a command over the outside that is handed in: `run` answers the script that the source gives, and `log`
-/// prints a line for each entry of the journal and reads no script. It always returns, and the disk and the hands'
-/// devices come back with the status and the entries.
+/// prints a line for each entry of the journal and reads no script. The rounds of the script send by the dialer and the
+/// clock of its hand. It always returns, and the disk and the hands' devices come back with the status and the entries.
 pub fn collect_alone<So: Source, Si: Sink, D: Disk, N: Dialer, C: Clock>(
     alloc: Global,
     words: &[Text],
@@ -109,7 +103,11 @@ pub fn collect_alone<So: Source, Si: Sink, D: Disk, N: Dialer, C: Clock>(
     ensures finals { KeepsFinals (entries_of result.trail.entries) }
     ensures ids { KeepsIdsApart (entries_of result.trail.entries) }
     ensures sends { KeepsSends (entries_of result.trail.entries) }
-    ensures transmissions { result.hands ≡ hands }
+    ensures transmissions { Transmits (entries_of result.trail.entries) (N.carried hands.script.dialer)
+        (N.carried result.hands.script.dialer) }
+    ensures peer { N.peer result.hands.script.dialer ≡ N.peer hands.script.dialer }
+    ensures workers { (result.hands.sender ≡ hands.sender) × (result.hands.updater ≡ hands.updater)
+        × (result.hands.lister ≡ hands.lister) }
 {
     let Some(work) = work_of(words) else {
         let status = finish(sink, Err(Stop::Usage));
@@ -120,7 +118,8 @@ pub fn collect_alone<So: Source, Si: Sink, D: Disk, N: Dialer, C: Clock>(
             trail: no_trail(alloc),
         };
     };
-    let Ran { disk, trail, end } = run(alloc, work, source, sink, disk);
+    let mut hands = hands;
+    let Ran { disk, trail, end } = run(alloc, work, source, sink, disk, &mut hands.script);
     let status = finish(sink, end);
     Done {
         status,
