@@ -40,7 +40,7 @@ printf '\247\247\247\247\247\247\247\247\247\247' >device.journal
 check "ten bytes are no journal" 6 'fault 6 at 0\n' 10 'quit\n' run
 rm -f device.journal
 check "lines that aren't known" 0 '1 bad line\n1 not built\n1 settings mode manual autosend off\n' 49 \
-    'dance\nsend\nshow settings\n' run
+    'dance\nupdate\nshow settings\n' run
 rm -f device.journal
 check "modes" 0 '2 ok\n3 ok\n3 settings mode exact autosend off\n4 ok\n' 73 \
     'set mode previous\nset mode exact\nshow settings\nset mode manual\n' run

@@ -1,4 +1,5 @@
-//! The program: the top call over the standard streams, the file `device.journal` of the current folder, and the clock.
+//! The program: the top call over the standard streams, the file `device.journal` of the current folder, the clock, and
+//! sockets.
 #![tactic(auto)]
 
 mod streams;
@@ -12,16 +13,20 @@ use collect_script::ScriptStop;
 use collect_top::{Hand1, Hands, Stop, collect_alone, put_fault};
 use device_core::OpenFault;
 use disk_model::{FileDisk, LockedFile};
-use field_io::{MemDialer, StdSink, StdSource, SystemClock};
+use field_io::{StdSink, StdSource, SystemClock, TcpDialer};
 use field_text::{NoMemory, Text};
 use std::alloc::{AllocError, Global};
 use std::process::ExitCode;
 use std::rt::Env;
+use std::time::Duration;
 use std::{env, io};
 
 const FOLDER: &str = ".";
 
 const JOURNAL: &str = "device.journal";
+
+/// How many seconds a send or a take may wait.
+const PATIENCE: u64 = 30;
 
 // The words behind the program's name, none where the system can't tell them as texts.
 fn words<R: Env + Alloc<A = Global>>(rt: &R) -> Result<Vec<Text>, NoMemory> {
@@ -35,10 +40,10 @@ fn words<R: Env + Alloc<A = Global>>(rt: &R) -> Result<Vec<Text>, NoMemory> {
     Ok(words)
 }
 
-fn hand(rt: &HostRuntime) -> Hand1<MemDialer, SystemClock<HostRuntime>> {
-    let alloc = rt.alloc();
+// A hand that dials over sockets.
+fn hand(rt: &HostRuntime) -> Hand1<TcpDialer<HostRuntime>, SystemClock<HostRuntime>> {
     Hand1 {
-        dialer: MemDialer::make(alloc, Vec::new(alloc), Vec::new(alloc)),
+        dialer: TcpDialer::new(*rt, Duration::from_secs(PATIENCE)),
         clock: SystemClock::new(*rt),
     }
 }

@@ -156,7 +156,7 @@ fn lines_of_fixed_words_have_meanings(rt: HostRuntime) -> Result<(), Fail> {
         (b"leave", "Give(Leave)"),
         (b"finalize", "Give(Finalize)"),
         (b"finalizeall", "Give(FinalizeAll)"),
-        (b"send", "NotBuilt"),
+        (b"send", "Send"),
         (b"update", "NotBuilt"),
         (b"lists", "NotBuilt"),
         (b"settle", "NotBuilt"),
@@ -458,7 +458,8 @@ fn words_and_entries_are_printed(rt: HostRuntime) -> Result<(), Fail> {
         command: Command::SaveDraft,
     };
     print_entry(alloc, 1, &entry, &mut out)?;
-    let want = b"10 bye\n10 bad line\n10 not built\n1 lister savedraft\n";
+    print_round(alloc, 24, 2, 4, &mut out)?;
+    let want = b"10 bye\n10 bad line\n10 not built\n1 lister savedraft\n24 sent 2 failed 4\n";
     assert_eq!(rt; out.as_slice(), want.as_slice());
     Ok(())
 }
