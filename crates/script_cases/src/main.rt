@@ -2,6 +2,7 @@
 #![tactic(auto)]
 
 mod cases;
+mod peers;
 mod runs;
 mod scripts;
 

@@ -4,32 +4,21 @@ ghost use Rattle.std.specs.Fmt.{decimal};
 
 use collect_top::{Done, Hand1, Hands, collect_alone};
 use disk_model::{Disk, FusedDisk, MemDisk};
-use field_io::{FixedClock, MemDialer, MemSink, MemSource};
+use field_io::{Dialer, FixedClock, MemSink, MemSource};
 use field_text::{NoMemory, Text};
 use std::alloc::Global;
 
-/// Runs over one journal.
+/// Runs over one journal, with the same hands one after another.
 #[derive(Drop)]
-pub struct Runs {
+pub struct Runs<N> {
     journal: Vec<u8>,
+    pub hands: Hands<N, FixedClock>,
 }
 
-// A hand that reaches nobody.
-fn quiet(alloc: Global) -> Hand1<MemDialer, FixedClock> {
-    let dialer = MemDialer::make(alloc, Vec::new(alloc), Vec::new(alloc));
+/// A hand that dials so, with a clock that stands still.
+pub fn hand<N>(dialer: N) -> Hand1<N, FixedClock> {
     let clock = FixedClock::make(0);
     Hand1 { dialer, clock }
-}
-
-fn quiet_hands(alloc: Global) -> Hands<MemDialer, FixedClock> {
-    let (script, sender) = (quiet(alloc), quiet(alloc));
-    let (updater, lister) = (quiet(alloc), quiet(alloc));
-    Hands {
-        script,
-        sender,
-        updater,
-        lister,
-    }
 }
 
 // The one word of a command.
@@ -47,47 +36,51 @@ fn disk_of(alloc: Global, journal: &[u8]) -> Result<MemDisk, NoMemory>
     MemDisk::make(alloc, Vec::from_slice(alloc, journal)?)
 }
 
-/// What a run left: its status, what it printed, and the disk.
+/// What a run left: its status, what it printed, the disk and the hands.
 #[derive(Drop)]
-pub struct Left<D> {
+pub struct Left<D, N> {
     pub status: u8,
     pub printed: String,
     pub disk: D,
+    pub hands: Hands<N, FixedClock>,
 }
 
-// The status of a call of the program, and the disk behind it.
-fn call<D: Disk + Drop>(
+// The status of a call of the program, and the disk and the hands behind it.
+fn call<D: Disk + Drop, N: Dialer + Drop>(
     alloc: Global,
     words: &[Text],
     source: &mut MemSource,
     sink: &mut MemSink,
     disk: D,
-) -> (u8, D) {
-    let done = collect_alone(alloc, words, source, sink, disk, quiet_hands(alloc));
+    hands: Hands<N, FixedClock>,
+) -> (u8, D, Hands<N, FixedClock>) {
+    let done = collect_alone(alloc, words, source, sink, disk, hands);
     let Done {
         status,
         disk,
-        hands: _,
+        hands,
         trail: _,
     } = done;
-    (status, disk)
+    (status, disk, hands)
 }
 
-fn run_over<D: Disk + Drop>(
+fn run_over<D: Disk + Drop, N: Dialer + Drop>(
     alloc: Global,
     word: &str,
     disk: D,
     script: &[u8],
-) -> Result<Left<D>, NoMemory> {
+    hands: Hands<N, FixedClock>,
+) -> Result<Left<D, N>, NoMemory> {
     let words = one_word(alloc, word)?;
     let mut source = MemSource::make(Vec::from_slice(alloc, script)?, Vec::new(alloc));
     let mut sink = MemSink::make(Vec::new(alloc), Vec::new(alloc));
-    let (status, disk) = call(alloc, &words, &mut source, &mut sink, disk);
+    let (status, disk, hands) = call(alloc, &words, &mut source, &mut sink, disk, hands);
     let printed = printed(alloc, status, sink.bytes())?;
     Ok(Left {
         status,
         printed,
         disk,
+        hands,
     })
 }
 
@@ -106,37 +99,77 @@ fn printed(alloc: Global, status: u8, bytes: &[u8]) -> Result<String, NoMemory> 
     Ok(printed)
 }
 
-impl Runs {
+impl<N: Dialer + Drop> Runs<N> {
     /// Runs over an empty journal.
-    pub fn new(alloc: Global) -> Runs {
+    pub fn new(alloc: Global, hands: Hands<N, FixedClock>) -> Runs<N> {
         Runs {
             journal: Vec::new(alloc),
+            hands,
         }
     }
 
-    /// What the command of this word prints over the journal, with a script.
-    pub fn run(&mut self, alloc: Global, word: &str, script: &[u8]) -> Result<String, NoMemory> {
-        let disk = disk_of(alloc, self.journal.as_slice())?;
-        let left = run_over(alloc, word, disk, script)?;
-        self.journal = Vec::from_slice(alloc, left.disk.bytes())?;
-        Ok(left.printed)
+    /// What the command of this word prints over the journal, with a script, and the runs to go on with.
+    pub fn run(
+        self,
+        alloc: Global,
+        word: &str,
+        script: &[u8],
+    ) -> Result<(String, Runs<N>), NoMemory> {
+        let Runs { journal, hands } = self;
+        let disk = disk_of(alloc, journal.as_slice())?;
+        let left = run_over(alloc, word, disk, script, hands)?;
+        let Left {
+            status: _,
+            printed,
+            disk,
+            hands,
+        } = left;
+        let journal = Vec::from_slice(alloc, disk.bytes())?;
+        Ok((printed, Runs { journal, hands }))
     }
 }
 
 /// Runs a script over an empty disk that stops at the call with this number.
-pub fn run_to_stop(alloc: Global, call: u64, script: &[u8]) -> Result<Left<MemDisk>, NoMemory> {
+pub fn run_to_stop<N: Dialer + Drop>(
+    alloc: Global,
+    call: u64,
+    script: &[u8],
+    hands: Hands<N, FixedClock>,
+) -> Result<Left<MemDisk, N>, NoMemory> {
     let disk = FusedDisk::make(disk_of(alloc, b"")?, call);
-    let left = run_over(alloc, "run", disk, script)?;
+    let left = run_over(alloc, "run", disk, script, hands)?;
+    let Left {
+        status,
+        printed,
+        disk,
+        hands,
+    } = left;
     Ok(Left {
-        status: left.status,
-        printed: left.printed,
-        disk: left.disk.into_disk(),
+        status,
+        printed,
+        disk: disk.into_disk(),
+        hands,
     })
 }
 
-/// What a script prints over the disk that a run left.
-pub fn run_behind(alloc: Global, left: Left<MemDisk>, script: &[u8]) -> Result<String, NoMemory> {
-    let Left { disk, .. } = left;
-    let left = run_over(alloc, "run", disk, script)?;
-    Ok(left.printed)
+/// What a script prints over the disk that a run left, and the hands behind it.
+pub fn run_behind<N: Dialer + Drop>(
+    alloc: Global,
+    left: Left<MemDisk, N>,
+    script: &[u8],
+) -> Result<(String, Hands<N, FixedClock>), NoMemory> {
+    let Left {
+        status: _,
+        printed: _,
+        disk,
+        hands,
+    } = left;
+    let left = run_over(alloc, "run", disk, script, hands)?;
+    let Left {
+        status: _,
+        printed,
+        disk: _,
+        hands,
+    } = left;
+    Ok((printed, hands))
 }
