@@ -1,8 +1,7 @@
 use device_rules::*;
 use device_state::{Counters, State};
-use entry_form::{Command, Entry, Hand, Lock, Opening, Outcome, Round};
+use entry_form::{Command, Entry, Hand, Opening, Round};
 use field_ids::Draws;
-use field_io::Stage;
 use field_text::{Mode, NoMemory, Text};
 use std::alloc::Global;
 use std::test::Fail;
@@ -110,98 +109,23 @@ fn values_have_limits(rt: HostRuntime) -> Result<(), Fail> {
     Ok(())
 }
 
-fn give(alloc: Global, state: &mut State, hand: Hand, command: Command) -> Result<Answer, Fail> {
-    let Ok(prepared) = decide(alloc, state, hand, command) else {
+// Whether the sender takes the lock of the instances.
+fn takes_lock(alloc: Global, state: &mut State) -> Result<bool, Fail> {
+    let take = Command::TakeLock(Round::Send);
+    let Ok(prepared) = decide(alloc, state, Hand::Sender, take) else {
         return Err("refused".into());
     };
     state.reserve()?;
     let (_entry, answer) = apply(state, prepared);
-    Ok(answer)
-}
-
-// The number of the refusal of a command.
-fn refusal(alloc: Global, state: &State, hand: Hand, command: Command) -> Result<u64, Fail> {
-    match decide(alloc, state, hand, command) {
-        Ok(prepared) => {
-            prepared.discard();
-            Err("accepted".into())
-        }
-        Err(why) => Ok(why.number()),
-    }
-}
-
-fn next_of(alloc: Global, state: &State) -> Result<Option<NextSend>, Fail> {
-    match ask(alloc, state, Hand::Sender, &Query::NextSend) {
-        Ok(Answer::NextSend(next)) => Ok(next),
-        _ => Err("no next send".into()),
-    }
+    Ok(matches!(answer, Answer::Done))
 }
 
 #[test]
-fn locks_are_taken_and_given_back(rt: HostRuntime) -> Result<(), Fail> {
-    let alloc = rt.alloc();
-    let mut state = State::initial(alloc);
-    let taken = give(
-        alloc,
-        &mut state,
-        Hand::Sender,
-        Command::TakeLock(Round::Send),
-    )?;
-    assert!(rt; matches!(taken, Answer::Done));
-    assert_eq!(rt; busy(&state), 1);
-    let again = refusal(alloc, &state, Hand::Script, Command::TakeLock(Round::Send))?;
-    assert_eq!(rt; again, 2);
-    let finalizing = refusal(alloc, &state, Hand::Script, Command::FinalizeAll)?;
-    assert_eq!(rt; finalizing, 2);
-    let other = refusal(
-        alloc,
-        &state,
-        Hand::Script,
-        Command::Release(Lock::Instances),
-    )?;
-    assert_eq!(rt; other, 3);
-    let released = give(
-        alloc,
-        &mut state,
-        Hand::Sender,
-        Command::Release(Lock::Instances),
-    )?;
-    assert!(rt; matches!(released, Answer::Done));
+fn a_held_lock_keeps_a_device_busy(rt: HostRuntime) -> Result<(), Fail> {
+    let mut state = State::initial(rt.alloc());
     assert_eq!(rt; busy(&state), 0);
-    Ok(())
-}
-
-#[test]
-fn sends_need_an_instance(rt: HostRuntime) -> Result<(), Fail> {
-    let alloc = rt.alloc();
-    let mut state = State::initial(alloc);
-    let early = refusal(
-        alloc,
-        &state,
-        Hand::Sender,
-        Command::SendBegun { number: 1, at: 0 },
-    )?;
-    assert_eq!(rt; early, 3);
-    let _taken = give(
-        alloc,
-        &mut state,
-        Hand::Sender,
-        Command::TakeLock(Round::Send),
-    )?;
-    let missing = refusal(
-        alloc,
-        &state,
-        Hand::Sender,
-        Command::SendBegun { number: 1, at: 0 },
-    )?;
-    assert_eq!(rt; missing, 7);
-    let ended = Command::SendEnded {
-        number: 1,
-        outcome: Outcome::Fault(Stage::Dial),
-    };
-    let unsent = refusal(alloc, &state, Hand::Sender, ended)?;
-    assert_eq!(rt; unsent, 21);
+    assert!(rt; takes_lock(rt.alloc(), &mut state)?);
+    assert_eq!(rt; busy(&state), 1);
     assert_eq!(rt; due(&state, Hand::Sender), 0);
-    assert!(rt; next_of(alloc, &state)?.is_none());
     Ok(())
 }
