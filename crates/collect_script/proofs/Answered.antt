@@ -1,26 +1,23 @@
 -- One line more is answered, or isn't answered whole.
-use Rattle.std.proofs.Common.{◌≡◌, ◌≢◌, ℕ, ◌+◌, ◌≤◌, List, [], ◌∷◌, ◌++◌, length, drop, map, Option, Result, Ok, Err, inl, inr, refl, ap, sym, ◌∙◌, subst, arith, append_assoc, length-append, ◌<◌}
-use Rattle.std.specs.List.{AllByRecursion}
+use Rattle.std.proofs.Common.{◌≡◌, ◌≢◌, ℕ, ◌+◌, ◌≤◌, List, [], ◌∷◌, ◌++◌, length, drop, map, Option, inr, refl, ap, sym, ◌∙◌, subst, arith, length-append, ◌<◌}
 use Rattle.std.proofs.lemmas.List.{append-nil, drop-append-le}
 use Rattle.field_io.specs.Causes.{Rose}
-use Rattle.entry_form.specs.declared.command.Command.{Command}
 use Rattle.entry_form.specs.declared.entry.Entry.{Entry}
 use Rattle.entry_form.specs.declared.entry.Entry.TheVariants.{Done}
 use Rattle.entry_form.specs.declared.hand.Hand.TheVariants.{Script}
 use Rattle.entry_codec.specs.Spelling.{spelling}
-use Rattle.device_rules.specs.Caller.{CallerView, Grows, IsCommand, IsFullAt, LeavesRest, SameRest, of_hand}
+use Rattle.device_rules.specs.Caller.{CallerView, Grows, SameRest, of_hand}
 use Rattle.device_rules.specs.Limits.{largest_journal}
 use Rattle.device_rules.specs.declared.refused.Refused.{Refused}
 use Rattle.device_rules.specs.declared.told.SubmitFault.{SubmitFault}
 use Rattle.device_rules.specs.declared.told.SubmitFault.TheVariants as faults
 use Rattle.field_io.specs.declared.exchange.Exchange.{Exchange}
 use Rattle.send_workers.specs.Rounds.{GoesOn, Stops, at_begin, at_end, at_lock, at_look, at_release, view}
-use Rattle.send_workers.proofs.Steps.{on_others, on_then}
-use Rattle.line_io.specs.Output.{Gained, IsCut}
+use Rattle.send_workers.proofs.Steps.{grows_then, on_others, on_then}
+use Rattle.line_io.specs.Output.{Gained}
 use Rattle.line_io.proofs.Gains.{gained_then}
 use Rattle.collect_text.specs.Line.{meaning}
 use Rattle.collect_text.specs.declared.line.Line.{Line}
-use Rattle.collect_text.specs.declared.line.Line.TheVariants.{Give}
 use Rattle.collect_script.specs.declared.stop.ScriptStop.{ScriptStop}
 use Rattle.collect_script.specs.declared.stop.ScriptStop.TheVariants as stops
 use Rattle.collect_script.specs.Answering.{FaultText, LineAnswered, LineStops, Says, SaysNothing, accepts, bad, cut, failed, faulted, full, hides, not_built, quits, refuses, shows, silent, skips, starved, ran, busy, stopped, full_round, faulted_round}
@@ -28,7 +25,7 @@ use Rattle.collect_script.specs.Ends.{CantAnswer, IsFullLine, IsSettled, Puts, S
 use Rattle.collect_script.specs.Ends as ends
 use Rattle.collect_script.specs.Rounds.{IsFrontOfRound}
 use Rattle.collect_script.specs.Transcript.{MayAdd, Transcript, of_script}
-use Rattle.collect_script.proofs.Growing.{grows_none, grows_then}
+use Rattle.collect_script.proofs.Growing.{grows_none}
 use Rattle.collect_script.proofs.Histories.{behind_added, of_script-append, transcript_grow, transcript_then}
 use Rattle.collect_script.proofs.Printed.{IsPrinted}
 use Rattle.collect_script.proofs.Printing.{adds_behind, says_printed, settled_on, within_on}

@@ -1,22 +1,18 @@
 -- How the lines of a script end, from what stands before.
-use Rattle.std.proofs.Common.{◌≡◌, ◌≢◌, ℕ, List, [], ◌∷◌, ◌++◌, true, false, not, Option, Some, None, Result, Ok, Err, inl, inr, refl, ap, sym, ◌∙◌, subst}
-use Rattle.std.specs.List.{list_all}
+use Rattle.std.proofs.Common.{◌≡◌, ℕ, List, [], ◌∷◌, ◌++◌, true, false, not, Option, Some, None, Ok, Err, inl, inr, refl, ◌∙◌}
 use Rattle.std.proofs.lemmas.List.Folds.{list_all-append}
-use Rattle.entry_form.specs.declared.hand.Hand.TheVariants.{Script}
 use Rattle.device_rules.specs.Caller.{CallerView}
-use Rattle.line_io.specs.Reader.{GivesNext, Input, ReaderView, StopsReading}
+use Rattle.line_io.specs.Reader.{GivesNext, ReaderView, StopsReading}
 use Rattle.line_io.specs.declared.stop.ReadStop.{ReadStop}
 use Rattle.line_io.specs.declared.stop.ReadStop.TheVariants as reading
 use Rattle.collect_text.specs.Line.{meaning}
-use Rattle.collect_text.specs.declared.line.Line.{Line}
 use Rattle.collect_script.specs.declared.stop.ScriptStop.{ScriptStop}
 use Rattle.collect_script.specs.declared.stop.ScriptStop.TheVariants as stops
 use Rattle.collect_script.specs.Answering.{AnswersLines, LineAnswered, LineStops, stop_of}
-use Rattle.collect_script.specs.Ends.{CantAnswer, Ends, IsSettled, Puts, ScriptEnd, Streams, finished, unanswered, unread, starved_at}
-use Rattle.collect_script.specs.Script.{GoesOn, ends_script, is_quit}
-use Rattle.collect_script.specs.Transcript.{MayAdd, of_script}
-use Rattle.collect_script.proofs.Answered.{Moves, answered_more, cant_answer, printed_of, stops_failed, stops_full, stops_move, transcript_on}
-use Rattle.collect_script.proofs.Growing.{grows_then}
+use Rattle.collect_script.specs.Ends.{IsSettled, Puts, Streams, finished, unanswered, unread, starved_at}
+use Rattle.collect_script.specs.Script.{GoesOn, ends_script}
+use Rattle.collect_script.proofs.Answered.{answered_more, cant_answer, printed_of, stops_failed, stops_full, stops_move, transcript_on}
+use Rattle.send_workers.proofs.Steps.{grows_then}
 use Rattle.collect_script.proofs.Printed.{IsPrinted}
 use Rattle.collect_script.proofs.Saying.{may_none}
 use Rattle.collect_script.proofs.SoFar.{HasAnswered, HasRead, SoFar, input_of, read_all, read_more, read_stops, reads_of}

@@ -1,5 +1,5 @@
 -- The exchanges of a script's lines, one behind the other.
-use Rattle.std.proofs.Common.{◌≡◌, ℕ, List, Option, Result, IfOk, IfErr, refl, sym, ◌∙◌, ap, subst}
+use Rattle.std.proofs.Common.{◌≡◌, ℕ, List, Option, Result, IfOk, IfErr, refl, ◌∙◌, ap}
 use Rattle.std.specs.Prelude.{true}
 use Rattle.entry_form.specs.declared.entry.Entry.{Entry}
 use Rattle.entry_form.specs.declared.hand.Hand.TheVariants.{Script}

@@ -2,7 +2,6 @@
 use Rattle.std.proofs.Common.{◌≡◌, ℕ, List, [], ◌∷◌, ◌++◌, Result, Ok, Err, IfOk, IfErr, inl, inr, refl, ap, sym, ◌∙◌, subst, append-nil}
 use Rattle.std.specs.Prelude.{Bool, true, false, not, ◌&&◌}
 use Rattle.std.specs.List.{filter}
-use Rattle.std.specs.Option.{option_map}
 use Rattle.entry_form.specs.declared.command.Command.{Command}
 use Rattle.entry_form.specs.declared.entry.Entry.{Entry}
 use Rattle.entry_form.specs.declared.entry.Entry.TheVariants.{Done}
@@ -16,7 +15,7 @@ use Rattle.collect_script.specs.Answering.{Says, SaysNothing, accepts, bad, busy
 use Rattle.collect_script.specs.Exchanged.{is_plain}
 use Rattle.collect_script.specs.Transcript.{MayAdd}
 use Rattle.collect_script.proofs.Saying.{may_none, own_alone}
-use Rattle.send_workers.specs.Agreement.{GoesBy, is_send_command, is_send_entry, is_send_of}
+use Rattle.send_workers.specs.Agreement.{GoesBy, is_send_command, is_send_entry}
 
 -- ---- filters
 

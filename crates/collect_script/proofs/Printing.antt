@@ -1,13 +1,11 @@
 -- One line over a caller: its piece stands in the transcript, or its entry may stand without an answer.
-use Rattle.std.proofs.Common.{◌≡◌, ◌≢◌, ℕ, ◌+◌, ◌≤◌, List, [], ◌∷◌, ◌++◌, length, take, drop, Some, Result, Ok, Err, suc, inl, inr, refl, ap, sym, ◌∙◌, subst, arith, length-append, append_assoc}
+use Rattle.std.proofs.Common.{◌≡◌, ℕ, ◌+◌, ◌≤◌, List, [], ◌∷◌, ◌++◌, length, take, drop, Some, Ok, suc, inl, inr, refl, ap, sym, ◌∙◌, subst, arith, length-append, append_assoc}
 use Rattle.std.specs.List.{slice_get}
-use Rattle.std.proofs.lemmas.List.{append-nil, drop_at, take-append-le, take_all}
+use Rattle.std.proofs.lemmas.List.{drop_at, take-append-le, take_all}
 use Rattle.entry_form.specs.declared.command.Command.{Command}
 use Rattle.entry_form.specs.declared.entry.Entry.{Entry}
 use Rattle.entry_form.specs.declared.entry.Entry.TheVariants.{Done}
-use Rattle.entry_form.specs.declared.hand.Hand.{Hand}
 use Rattle.entry_form.specs.declared.hand.Hand.TheVariants.{Script}
-use Rattle.device_rules.specs.declared.refused.Refused.{Refused}
 use Rattle.device_rules.specs.declared.refused.Refused.TheVariants as refusals
 use Rattle.device_state.specs.declared.state.State.{State}
 use Rattle.device_rules.specs.declared.told.Told.{Told}

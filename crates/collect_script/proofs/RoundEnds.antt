@@ -1,5 +1,5 @@
 -- What a line says of a round, by its end.
-use Rattle.std.proofs.Common.{◌≡◌, ℕ, List, Option, refl, sym, subst}
+use Rattle.std.proofs.Common.{◌≡◌, ℕ, List, Option, sym, subst}
 use Rattle.entry_form.specs.declared.command.Command.TheVariants.{TakeLock}
 use Rattle.entry_form.specs.declared.hand.Hand.TheVariants.{Script}
 use Rattle.entry_form.specs.declared.hand.Round.TheVariants as rounds
@@ -8,7 +8,6 @@ use Rattle.device_rules.specs.declared.refused.Refused.TheVariants.{Busy}
 use Rattle.device_rules.specs.Caller.{CallerView}
 use Rattle.collect_text.specs.declared.line.Line.TheVariants.{Send}
 use Rattle.collect_script.specs.declared.stop.ScriptStop.{ScriptStop}
-use Rattle.collect_script.specs.declared.stop.ScriptStop.TheVariants as stops
 use Rattle.collect_script.specs.Answering.{RoundStop, RoundText, Says, SaysNothing, busy, ran, stopped}
 use Rattle.collect_script.proofs.RoundEntries.{refused_nothing, run_nothing, starves_nothing, stops_nothing}
 use Rattle.send_workers.specs.Rounds.{Rounds, view}

@@ -1,5 +1,5 @@
 -- The script's own entries of a round, up to where it has come.
-use Rattle.std.proofs.Common.{◌≡◌, ◌≢◌, ℕ, ◌+◌, ◌<◌, List, [], ◌∷◌, ◌++◌, length, map, Option, Result, Ok, Err, refl, ap, sym, ◌∙◌, subst, arith, append_assoc, append-nil}
+use Rattle.std.proofs.Common.{◌≡◌, ℕ, ◌+◌, ◌<◌, List, [], ◌∷◌, ◌++◌, length, map, Option, refl, ap, sym, ◌∙◌, subst, append_assoc, append-nil}
 use Rattle.std.specs.List.{flat_map}
 use Rattle.std.proofs.lemmas.Grind.{flat_map-append}
 use Rattle.std.proofs.lemmas.List.{append_cancel_left}
@@ -26,17 +26,16 @@ use Rattle.device_rules.specs.declared.answer.Query.TheVariants as queries
 use Rattle.device_rules.specs.declared.refused.Refused.{Refused}
 use Rattle.device_rules.specs.Caller.{CallerView, AddsOthers, IsCallFault, IsLookFault, LooksOn, Refuses, SameRest, is_of, of_hand}
 use Rattle.device_rules.specs.Limits.{largest_journal}
-use Rattle.collect_text.specs.declared.line.Line.{Line}
 use Rattle.collect_text.specs.declared.line.Line.TheVariants.{Send}
 use Rattle.collect_script.specs.declared.stop.ScriptStop.{ScriptStop}
 use Rattle.collect_script.specs.declared.stop.ScriptStop.TheVariants as stops
-use Rattle.collect_script.specs.Answering.{Adds, FaultStop, LeavesRound, SaysNothing, failed, faulted_round, full_round, starved}
+use Rattle.collect_script.specs.Answering.{Adds, FaultStop, SaysNothing, failed, faulted_round, full_round, starved}
 use Rattle.collect_script.specs.Rounds.{IsFrontOfRound, IsOfRound, Recorded, round_entries, send_entries}
 use Rattle.collect_script.specs.Transcript.{MayAdd, of_script}
 use Rattle.send_workers.specs.Rounds.{GoesOn, HasBegun, HasCarried, HasRun, HasSent, Starves, Stops, Went, at_begin, at_end, at_lock, at_look, at_release, begun, unbegun, view}
 use Rattle.send_workers.specs.Sends.{AreSent, Begins, Comes, IsSent, Sending, Waits}
-use Rattle.collect_script.proofs.Growing.{grows_then}
-use Rattle.send_workers.proofs.Steps.{on_others, on_then, waits_then}
+use Rattle.collect_script.proofs.Growing.{grows_none}
+use Rattle.send_workers.proofs.Steps.{grows_then, on_others, on_then, waits_then}
 
 -- ---- lists of entries
 
@@ -173,20 +172,7 @@ module _ (old : CallerView) (is_script : old.hand ≡ Script) where
         (behind_sent old.start went.taken last sends script_sent)
 
   on_none : GoesOn old old
-  on_none = record {
-    added = [];
-    grows = record {
-      hand = refl;
-      start = refl;
-      trail = sym (append-nil old.trail);
-      commands = tt;
-      faults = omega arith;
-      length = omega arith;
-      refusals = omega arith;
-      closings = omega arith;
-    };
-    rest = refl;
-  }
+  on_none = record { added = []; grows = grows_none old; rest = refl }
 
   pub reached_none : Reached old old []
   reached_none = record { on = on_none; behind = behind_none old.trail; front = front_none old.start }

@@ -1,5 +1,5 @@
 -- A round's line stands in the transcript.
-use Rattle.std.proofs.Common.{◌≡◌, ◌≢◌, ℕ, ◌+◌, ◌-◌, ◌≤◌, List, [], ◌∷◌, ◌++◌, not, length, take, drop, count_by, Option, Some, None, Result, Ok, Err, inl, inr, refl, ap, sym, ◌∙◌, subst, arith, length-append, append_assoc, append-nil}
+use Rattle.std.proofs.Common.{◌≡◌, ◌≢◌, ℕ, ◌+◌, ◌-◌, ◌≤◌, List, [], ◌∷◌, ◌++◌, length, take, drop, count_by, Option, Some, Err, inl, inr, refl, ap, sym, ◌∙◌, subst, arith, length-append, append_assoc}
 use Rattle.std.proofs.Math.Seq.{take-append-add, take-append_seam}
 use Rattle.std.proofs.lemmas.List.{drop_at, take-append-drop, take-append-le}
 use Rattle.std.proofs.lemmas.List.Elements.{filter-append}
@@ -8,7 +8,6 @@ use Rattle.entry_form.specs.declared.command.Command.{Command}
 use Rattle.entry_form.specs.declared.command.Command.TheVariants.{TakeLock, Release, SendBegun, SendEnded}
 use Rattle.entry_form.specs.declared.entry.Entry.{Entry}
 use Rattle.entry_form.specs.declared.entry.Entry.TheVariants.{Done}
-use Rattle.entry_form.specs.declared.hand.Hand.{Hand}
 use Rattle.entry_form.specs.declared.hand.Hand.TheVariants.{Script}
 use Rattle.entry_form.specs.declared.hand.Lock.TheVariants.{Instances}
 use Rattle.entry_form.specs.declared.hand.Round.TheVariants as rounds
@@ -33,8 +32,8 @@ use Rattle.collect_script.specs.Rounds as behind
 use Rattle.collect_script.specs.Transcript.{AllAnswered, of_script}
 use Rattle.collect_script.proofs.Histories.{answered_later, none_taken}
 use Rattle.collect_script.proofs.Printed.{IsPrinted, told_by_rules}
-use Rattle.collect_script.proofs.RoundEntries.{Behind, Reached, reached_carried, reached_none, reached_on, reached_run, reached_sent, released_behind, run_entries, script_sent, script_takes, to_script}
-use Rattle.send_workers.specs.Rounds.{HasBegun, HasCarried, HasRun, HasSent, NoneLeft, Stops, Went, at_begin, at_end, at_lock, at_look, at_release, view, was_taken}
+use Rattle.collect_script.proofs.RoundEntries.{Reached, reached_carried, reached_none, reached_on, reached_run, reached_sent, released_behind, run_entries, script_sent, script_takes, to_script}
+use Rattle.send_workers.specs.Rounds.{HasRun, NoneLeft, Stops, Went, at_begin, at_end, at_lock, at_look, at_release, view, was_taken}
 use Rattle.send_workers.specs.Sends.{AreSent, Begins, Comes, Sending, Waits}
 use Rattle.send_workers.proofs.Steps.{waits_then}
 

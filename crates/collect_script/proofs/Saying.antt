@@ -1,6 +1,5 @@
 -- Why a line has no text, by what the caller's call did.
-use Rattle.std.proofs.Common.{◌≡◌, ℕ, List, [], ◌∷◌, ◌++◌, Result, Ok, Err, IfOk, IfErr, inl, inr, refl, ap, sym, ◌∙◌, subst, arith}
-use Rattle.std.proofs.lemmas.List.{append-nil}
+use Rattle.std.proofs.Common.{◌≡◌, ℕ, List, [], ◌∷◌, ◌++◌, Result, Ok, Err, IfOk, IfErr, inl, inr, refl, ap, sym, ◌∙◌, subst}
 use Rattle.std.proofs.lemmas.List.Elements.{filter-append}
 use Rattle.entry_form.specs.declared.command.Command.{Command}
 use Rattle.entry_form.specs.declared.entry.Entry.{Entry}
@@ -17,6 +16,7 @@ use Rattle.collect_text.specs.declared.line.Line.TheVariants.{Skipped, Bad, NotB
 use Rattle.collect_script.specs.declared.stop.ScriptStop.{ScriptStop}
 use Rattle.collect_script.specs.declared.stop.ScriptStop.TheVariants as stops
 use Rattle.collect_script.specs.Answering.{Adds, FaultStop, FaultText, Says, SaysNothing, refuses, hides, quits, bad, not_built, starved, full, faulted, failed}
+use Rattle.collect_script.proofs.Growing.{grows_none}
 use Rattle.collect_script.specs.Rounds.{IsFrontOfRound, round_entries}
 use Rattle.collect_script.specs.Transcript.{MayAdd}
 
@@ -106,16 +106,7 @@ module _ (old new : CallerView) where
 pub starved_at_once : (view : CallerView) (line : Line) → SaysNothing view view line stops.NoMemory
 starved_at_once view line = starved (record {
   added = [];
-  grows = record {
-    hand = refl;
-    start = refl;
-    trail = sym (append-nil view.trail);
-    commands = tt;
-    faults = omega arith;
-    length = omega arith;
-    refusals = omega arith;
-    closings = omega arith;
-  };
+  grows = grows_none view;
   own = may_none line [] refl;
   rest = refl;
 })

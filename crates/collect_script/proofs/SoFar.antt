@@ -1,24 +1,24 @@
 -- What stands while the lines of a script are read and answered one after another.
-use Rattle.std.proofs.Common.{◌≡◌, ◌≢◌, ℕ, ◌+◌, ◌-◌, ◌<◌, ◌≤◌, List, [], ◌∷◌, ◌++◌, Bool, true, false, not, length, take, drop, map, Option, Some, None, Result, Ok, Err, IfErr, IsTrue, inl, inr, refl, ap, sym, ◌∙◌, subst, arith, append_assoc, length-append, suc}
-use Rattle.std.specs.List.{AllByRecursion, flat_map, list_all}
+use Rattle.std.proofs.Common.{◌≡◌, ℕ, ◌+◌, ◌-◌, ◌<◌, ◌≤◌, List, [], ◌∷◌, ◌++◌, true, false, length, map, Option, Some, None, refl, ap, sym, ◌∙◌, subst, arith, append_assoc, length-append, suc}
+use Rattle.std.specs.List.{AllByRecursion}
 use Rattle.std.proofs.lemmas.List.{append-nil, drop_all}
-use Rattle.std.proofs.lemmas.List.Folds.{list_all-append}
 use Rattle.field_io.specs.Causes.{Rose}
 use Rattle.entry_form.specs.declared.entry.Entry.{Entry}
 use Rattle.entry_form.specs.declared.hand.Hand.TheVariants.{Script}
 use Rattle.device_state.specs.declared.state.State.{State}
-use Rattle.device_rules.specs.Caller.{CallerView, Grows, IsCommand}
+use Rattle.device_rules.specs.Caller.{CallerView, Grows}
 use Rattle.line_io.specs.Output.{Gained}
 use Rattle.line_io.specs.Reader.{Gives, GivesNext, HasEnded, Input, IsKept, ReaderView, StopsReading, line, last, none, failed, starved, long_line, long_script}
 use Rattle.line_io.specs.Script.{IsAtEnd, IsLine, Taken, most_bytes}
 use Rattle.line_io.specs.declared.stop.ReadStop.{ReadStop}
-use Rattle.line_io.proofs.Gains.{gained_nothing, gained_then, taken_then}
+use Rattle.line_io.proofs.Gains.{gained_nothing, taken_then}
 use Rattle.line_io.proofs.Lines.{taken_nothing}
 use Rattle.collect_text.specs.Line.{meaning}
+use Rattle.collect_script.proofs.Growing.{grows_none}
 use Rattle.collect_script.specs.Answering.{stop_of}
 use Rattle.collect_script.specs.Ends.{CantRead, Streams}
 use Rattle.collect_script.specs.Ends as ends
-use Rattle.collect_script.specs.Script.{GoesOn, IsPastLimit, IsTooLong, IsWhole, Quits, Reads, Spells, by_end, by_feeds, ended, ends_script}
+use Rattle.collect_script.specs.Script.{GoesOn, Reads, Spells, by_end, by_feeds, ended}
 use Rattle.collect_script.specs.Transcript.{AllAnswered, Transcript, of_script}
 
 abbrev pub input_of : Streams → Input
@@ -80,16 +80,7 @@ none_answered view streams hand none_left = record {
   hand = hand;
   none_left = none_left;
   added = [];
-  grows = record {
-    hand = refl;
-    start = refl;
-    trail = sym (append-nil view.trail);
-    commands = tt;
-    faults = omega arith;
-    length = omega arith;
-    refusals = omega arith;
-    closings = omega arith;
-  };
+  grows = grows_none view;
   gained = gained_nothing streams.held;
   sound = refl;
 }

@@ -1,5 +1,5 @@
 -- How the lines of a script are answered, and why the answering ends.
-use Rattle.std.specs.Prelude.{◌≡◌, ◌⊎◌, ℕ, ◌+◌, ◌<◌, ◌≤◌, List, [], ◌∷◌, ◌++◌, length, drop, map, Option, Result, Ok}
+use Rattle.std.specs.Prelude.{◌≡◌, ◌⊎◌, ℕ, ◌+◌, ◌<◌, List, [], ◌∷◌, ◌++◌, length, drop, map, Option, Result, Ok}
 use Rattle.std.specs.Prelude.{Err}
 use Rattle.field_io.specs.Causes.{Rose}
 use Rattle.entry_form.specs.declared.command.Command.{Command}

@@ -1,5 +1,5 @@
 -- The lines of a script that were taken from a source.
-use Rattle.std.specs.Prelude.{◌≡◌, ◌⊎◌, ℕ, ◌<◌, List, [], ◌∷◌, ◌++◌, Bool, true, false, not, length, Option, IsTrue}
+use Rattle.std.specs.Prelude.{◌≡◌, ℕ, ◌<◌, List, [], ◌∷◌, ◌++◌, Bool, true, false, not, length, Option, IsTrue}
 use Rattle.std.specs.Prelude.{◌+◌}
 use Rattle.std.specs.List.{flat_map, list_all, AllByRecursion}
 use Rattle.line_io.specs.Script.{longest_line, most_bytes, IsAtEnd, IsLine, IsUncut, Taken}

@@ -1,16 +1,16 @@
 -- The causes of each end.
-use Rattle.std.proofs.Common.{◌≡◌, ◌≢◌, ◌⊎◌, ⊎_elim, inl, inr, ℕ, ◌+◌, ◌≤◌, ◌<◌, List, [], ◌++◌, length, Option, Some, None, Result, Ok, Err, refl, ap, sym, ◌∙◌, subst, arith, append_assoc, length-append}
-use Rattle.std.specs.Prelude.{IfSome, IsSome, take}
+use Rattle.std.proofs.Common.{◌≡◌, ◌≢◌, ◌⊎◌, ⊎_elim, inl, inr, ℕ, ◌≤◌, List, ◌++◌, length, Option, Some, None, Result, Ok, Err, refl, ap, ◌∙◌, subst, arith, append_assoc, length-append}
+use Rattle.std.specs.Prelude.{IfSome, take}
 use Rattle.field_io.specs.Causes.{Rose}
 use Rattle.entry_form.specs.declared.entry.Entry.{Entry}
 use Rattle.device_journal.specs.declared.fault.OpenFault.{OpenFault}
 use Rattle.device_journal.specs.declared.fault.OpenFault.TheVariants as opening
 use Rattle.device_rules.specs.declared.trail.Trail.{Trail}
 use Rattle.device_rules.specs.Trail.{entries_of}
-use Rattle.device_core.specs.Faults.{ContentReadsAs, IsFull, IsFullFor, IsOpenFault}
+use Rattle.device_core.specs.Faults.{ContentReadsAs, IsOpenFault}
 use Rattle.device_core.specs.Images.{ReadsAs}
 use Rattle.device_core.proofs.Once.{reads_once}
-use Rattle.line_io.specs.Script.{IsUncut, Taken, longest_line, most_bytes}
+use Rattle.line_io.specs.Script.{Taken}
 use Rattle.device_state.specs.declared.state.State.{State}
 use Rattle.collect_text.specs.declared.line.Line.{Line}
 use Rattle.collect_script.specs.declared.stop.ScriptStop.{ScriptStop}
@@ -22,12 +22,11 @@ use Rattle.collect_top.specs.declared.stop.Stop.TheVariants.{Opening, Script, Us
 use Rattle.collect_top.specs.declared.words.Work.{Work}
 use Rattle.collect_top.specs.Shown.{Shows}
 use Rattle.collect_top.specs.Shown as show
-use Rattle.collect_top.specs.Outside.{Images, Outside, streams_of}
+use Rattle.collect_top.specs.Outside.{Images}
 use Rattle.collect_top.specs.Parts.{Begins, Continues, Prints, PutsStop, own_opening}
 use Rattle.collect_top.specs.Parts as parts
 use Rattle.collect_top.specs.Run.{HasRun}
-use Rattle.collect_top.specs.Status.{Completes, EndCauses, IsCalm, IsWithinLimits}
-use Rattle.collect_top.specs.Status as status
+use Rattle.collect_top.specs.Status.{IsWithinLimits}
 use Rattle.collect_top.specs.Stop.{End, end_of_script}
 
 -- ---- the script

@@ -1,10 +1,10 @@
 -- The server that is meant where none is given has a base.
-use Rattle.std.proofs.Common.{◌≡◌, ◌≢◌, inl, inr, ℕ, zero, suc, ◌<◌, List, [], Bool, true, Some, None, refl, arith, sym, ap, take}
+use Rattle.std.proofs.Common.{◌≡◌, ◌≢◌, inl, ℕ, zero, suc, ◌<◌, List, [], true, Some, None, refl, arith, sym, ap, take}
 use Rattle.std.specs.Prelude.{codes, is_some, slice_index, length, IsTrue}
 use Rattle.std.proofs.lemmas.List.Sums.{AllPass-from_list_all}
 use Rattle.http_uri.specs.ByteClasses.{is_authority_byte, is_scheme_byte, colon, left_bracket, right_bracket}
 use Rattle.http_uri.specs.declared.uri.Uri.{Uri}
-use Rattle.http_uri.specs.Grammar.{IsAbsoluteForm, IsAuthority, IsScheme, MayFollow}
+use Rattle.http_uri.specs.Grammar.{IsAuthority, MayFollow}
 use Rattle.http_uri.specs.Uri.{Spells}
 use Rattle.http_wire.specs.Addresses.{base_of}
 use Rattle.http_wire.specs.Addresses.HasAddress.{of_uri}

@@ -1,6 +1,6 @@
 -- The headline of a call, from its parts.
-use Rattle.std.proofs.Common.{◌≡◌, ◌≢◌, ◌⊎◌, ⊎_elim, inl, inr, ℕ, List, [], ◌++◌, Option, Some, None, Result, Ok, Err, refl, ap, sym, ◌∙◌, subst}
-use Rattle.std.specs.Prelude.{IfSome, IsSome}
+use Rattle.std.proofs.Common.{◌≡◌, ◌≢◌, ⊎_elim, inl, ℕ, List, [], ◌++◌, Option, Some, None, Ok, Err, refl, ap, sym, ◌∙◌, subst}
+use Rattle.std.specs.Prelude.{IsSome}
 use Rattle.field_io.specs.Causes.{Rose}
 use Rattle.entry_form.specs.declared.entry.Entry.{Entry}
 use Rattle.device_journal.specs.declared.fault.OpenFault.{OpenFault}

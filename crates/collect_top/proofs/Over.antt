@@ -1,5 +1,5 @@
 -- The work over an opened device.
-use Rattle.std.proofs.Common.{◌≡◌, ◌≢◌, ℕ, ◌+◌, ◌-◌, ◌^◌, ◌≤◌, min, Bool, true, false, List, [], ◌++◌, length, Option, Result, Ok, Err, refl, ap, sym, ◌∙◌, subst, arith, cond}
+use Rattle.std.proofs.Common.{◌≡◌, ◌≢◌, ℕ, ◌+◌, ◌-◌, ◌^◌, min, Bool, true, false, List, ◌++◌, length, Err, refl, ap, sym, ◌∙◌, subst, cond}
 use Rattle.std.specs.Prelude.{nat_le, option_to_list}
 use Rattle.std.proofs.lemmas.Bool.{leb-true}
 use Rattle.field_io.specs.Causes.{Rose}
@@ -8,13 +8,11 @@ use Rattle.device_journal.specs.Frames.{end_of}
 use Rattle.device_rules.specs.declared.trail.Trail.{Trail}
 use Rattle.device_rules.specs.Caller.{Grows}
 use Rattle.device_state.specs.State.{initial}
-use Rattle.device_rules.specs.Trail.{IsLegal, entries_of}
+use Rattle.device_rules.specs.Trail.{entries_of}
 use Rattle.device_core.specs.Caller.{Leads, LeadsOn, risen, seen_of}
-use Rattle.device_core.specs.Crash.{Crash}
 use Rattle.device_core.specs.Images.{payloads_of}
 use Rattle.device_core.specs.View.{DeviceView}
 use Rattle.collect_script.specs.declared.stop.ScriptStop.TheVariants as script
-use Rattle.collect_script.specs.Answering.{AnswersLines}
 use Rattle.collect_script.specs.Ends.{AnswersScript, ScriptEnd, Streams}
 use Rattle.collect_top.specs.Outside.{Images}
 use Rattle.collect_top.specs.Run.{AnswersOver, Closed}

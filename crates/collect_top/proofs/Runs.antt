@@ -1,8 +1,8 @@
 -- A call that doesn't open the device, and one that does.
-use Rattle.std.proofs.Common.{◌≡◌, ◌≢◌, ◌⊎◌, ⊎_elim, inl, inr, ℕ, zero, suc, ◌+◌, ◌≤◌, List, [], ◌∷◌, ◌++◌, IsTrue, Bool, true, false, length, take, drop, Option, Some, None, Ok, Err, refl, ap, sym, ◌∙◌, subst, arith, append_assoc, length-append}
+use Rattle.std.proofs.Common.{◌≡◌, ◌⊎◌, ⊎_elim, inl, inr, ℕ, suc, ◌≤◌, List, [], ◌∷◌, ◌++◌, IsTrue, Bool, true, false, length, take, drop, Option, Some, None, Ok, Err, refl, ap, sym, ◌∙◌, subst, arith, append_assoc, length-append}
 use Rattle.std.specs.Prelude.{option_to_list, if◌then◌else◌}
 use Rattle.std.specs.List.{slice_get, AllByRecursion}
-use Rattle.std.proofs.lemmas.List.{append-nil, append_cancel_left, drop_at, take-append-le, take_all}
+use Rattle.std.proofs.lemmas.List.{append-nil, append_cancel_left, drop_at, take-append-le}
 use Rattle.std.proofs.Math.ListN.{length-take}
 use Rattle.field_io.specs.Causes.{Rose}
 use Rattle.entry_form.specs.declared.entry.Entry.{Entry}
@@ -15,7 +15,7 @@ use Rattle.device_journal.specs.Moments.{LeavesFrom, synced_at, unsynced}
 use Rattle.device_rules.specs.declared.trail.Trail.{Trail}
 use Rattle.device_rules.specs.Caller.{is_of}
 use Rattle.device_state.specs.State.{initial}
-use Rattle.device_rules.specs.Trail.{IsLegal, entries_of, replay}
+use Rattle.device_rules.specs.Trail.{IsLegal, entries_of}
 use Rattle.device_core.specs.Crash.{Crash, HasAtLeast, LeavesUnopened, unappended}
 use Rattle.device_core.specs.CrashLaws.{at_least_less, at_least_more}
 use Rattle.device_core.specs.Faults.{ContentReadsAs, IsOpenFault}
@@ -27,14 +27,14 @@ use Rattle.collect_script.specs.declared.stop.ScriptStop.TheVariants as script
 use Rattle.collect_script.specs.Ends.{AnswersScript, CantAnswer, Ends, ScriptEnd, Streams, cut, faulted, finished, full, full_round, starved_at, unanswered, unread}
 use Rattle.collect_script.specs.Transcript.{of_script}
 use Rattle.collect_script.proofs.Histories.{slice_get-grow, slice_get_middle}
-use Rattle.collect_top.specs.declared.stop.Stop.TheVariants.{Opening, Script, Usage}
+use Rattle.collect_top.specs.declared.stop.Stop.TheVariants.{Opening, Script}
 use Rattle.collect_top.specs.declared.words.Work.{Work}
 use Rattle.collect_top.specs.declared.words.Work.TheVariants as works
-use Rattle.collect_top.specs.Crash.{Leaves, LeavesEntries, opened, unopened}
+use Rattle.collect_top.specs.Crash.{LeavesEntries, opened, unopened}
 use Rattle.collect_top.specs.Outside.{Images}
 use Rattle.collect_top.specs.Parts.{Begins, Continues, Prints, answers, own_opening, shows}
 use Rattle.collect_top.specs.Parts as parts
-use Rattle.collect_top.specs.Run.{AnswersOver, Closed, HasRun, ShowsOver}
+use Rattle.collect_top.specs.Run.{AnswersOver, HasRun, ShowsOver}
 use Rattle.collect_top.specs.Shown.{Shows, shown_text}
 use Rattle.collect_top.specs.Shown as show
 use Rattle.collect_top.specs.Stop.{End, end_of_script}

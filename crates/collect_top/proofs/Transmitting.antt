@@ -1,5 +1,5 @@
 -- The exchanges of a call, from those of the lines that it answered.
-use Rattle.std.proofs.Common.{◌≡◌, inl, inr, ℕ, ◌-◌, ◌≤◌, List, [], ◌∷◌, ◌++◌, length, take, drop, Option, Some, refl, ap, sym, ◌∙◌, subst, arith, append_assoc, append-nil, length-append}
+use Rattle.std.proofs.Common.{◌≡◌, inl, inr, ℕ, ◌-◌, List, [], ◌∷◌, ◌++◌, length, take, drop, Option, refl, ap, sym, ◌∙◌, subst, arith, append_assoc, append-nil, length-append}
 use Rattle.std.proofs.Math.Seq.{take-append_seam}
 use Rattle.std.specs.List.{AllByRecursion, slice_get}
 use Rattle.std.proofs.lemmas.List.{drop_at}
@@ -18,9 +18,10 @@ use Rattle.collect_script.proofs.Histories.{slice_get_middle}
 use Rattle.collect_top.specs.Outside.{Images}
 use Rattle.collect_top.specs.Run.{Closed}
 use Rattle.collect_top.specs.Transmissions.{IsBehindOpening, Transmits, Transmitted}
-use Rattle.send_workers.specs.Agreement.{AreExchanged, HasExchanged, Turn}
+use Rattle.send_workers.specs.Agreement.{AreExchanged, HasExchanged}
 use Rattle.send_workers.specs.Rounds.{view}
-use Rattle.send_workers.proofs.Agreeing.{gains_none, goes_none}
+use Rattle.send_workers.proofs.Agreeing.{goes_none}
+use Rattle.send_workers.proofs.Steps.{no_gain}
 
 -- no entries, and no exchanges
 pub transmits_none : (carried : Option (List Exchange)) → Transmits [] carried carried
@@ -29,7 +30,7 @@ transmits_none carried = record {
   behind = record { within = omega arith; commands = tt; opening = inl refl };
   turns = [];
   exchanged = goes_none Script [];
-  gained = gains_none carried;
+  gained = no_gain carried;
 }
 
 pub transmitted_none : (h : List Entry) (carried : Option (List Exchange)) → Transmitted h h carried carried
@@ -39,7 +40,7 @@ transmitted_none h carried = record {
   commands = tt;
   turns = [];
   exchanged = goes_none Script h;
-  gained = gains_none carried;
+  gained = no_gain carried;
 }
 
 module _ (front : List Entry) (opening : Opening) (earlier later : List Entry) (c d : Option (List Exchange))

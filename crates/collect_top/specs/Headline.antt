@@ -1,6 +1,6 @@
 -- The headline: what holds of every call, whatever its words, script and disk, and wherever a call of the outside
 -- fails.
-use Rattle.std.specs.Prelude.{◌≡◌, ℕ, List, Option}
+use Rattle.std.specs.Prelude.{◌≡◌, ℕ, Option}
 use Rattle.device_rules.specs.declared.trail.Trail.{Trail}
 use Rattle.collect_top.specs.declared.words.Work.{Work}
 use Rattle.collect_top.specs.Crash.{CrashPrefix}

@@ -1,5 +1,5 @@
 -- The first parts of the headline: one serial run, and each printed answer at its place.
-use Rattle.std.specs.Prelude.{◌≡◌, ℕ, suc, ◌≤◌, List, [], ◌∷◌, ◌++◌, IsTrue, length, take, drop, codes, Option, Some}
+use Rattle.std.specs.Prelude.{◌≡◌, ℕ, suc, ◌≤◌, List, [], ◌++◌, IsTrue, length, take, drop, Option, Some}
 use Rattle.std.specs.Prelude.{None, slice_get, IfSome, Ok, Err}
 use Rattle.std.specs.List.{AllByRecursion}
 use Rattle.field_io.specs.Causes.{Rose}

@@ -1,5 +1,5 @@
 -- What the work over an opened device leaves, and a call before the line of its stop. It serves proofs alone.
-use Rattle.std.specs.Prelude.{◌≡◌, ◌≢◌, ◌⊎◌, ℕ, ◌≤◌, List, [], ◌++◌, length, Option, Some, None, option_to_list, Ok}
+use Rattle.std.specs.Prelude.{◌≡◌, ◌⊎◌, ℕ, List, [], ◌++◌, length, Option, Some, option_to_list}
 use Rattle.std.specs.Prelude.{Err}
 use Rattle.field_io.specs.Causes.{Rose}
 use Rattle.entry_form.specs.declared.entry.Entry.{Entry}
@@ -21,7 +21,7 @@ use Rattle.collect_top.specs.Crash.{Leaves}
 use Rattle.collect_top.specs.Shown.{Shows, shown_text}
 use Rattle.collect_top.specs.Outside.{Images}
 use Rattle.collect_top.specs.Parts.{Begins, Prints, own_opening}
-use Rattle.collect_top.specs.Stop.{End, end_of_script}
+use Rattle.collect_top.specs.Stop.{End}
 
 -- what the device shows behind the work, and what was made of it
 pub record Closed {D : Type 0} (images : Images D) (now : DeviceView D) (disk : D) (trail : Trail) : Type 0 where

@@ -1,7 +1,7 @@
 -- Which exchanges a round has made, by how far it came.
-use Rattle.std.proofs.Common.{◌≡◌, ◌≢◌, ℕ, List, [], ◌∷◌, ◌++◌, map, Option, Some, None, Result, Ok, Err, refl, ap, sym, ◌∙◌, subst, append_assoc, append-nil}
+use Rattle.std.proofs.Common.{◌≡◌, ℕ, List, [], ◌∷◌, ◌++◌, map, Option, refl, ap, sym, ◌∙◌, subst, append_assoc, append-nil}
 use Rattle.std.specs.Prelude.{Bool, true, false, ◌&&◌}
-use Rattle.std.specs.List.{filter, flat_map}
+use Rattle.std.specs.List.{filter}
 use Rattle.std.proofs.lemmas.Grind.{flat_map-append}
 use Rattle.std.proofs.lemmas.List.Elements.{filter-append}
 use Rattle.entry_form.specs.declared.command.Command.{Command}
@@ -17,15 +17,16 @@ use Rattle.device_rules.specs.declared.answer.NextSend.{NextSend}
 use Rattle.device_rules.specs.declared.answer.Query.{Query}
 use Rattle.device_rules.specs.declared.told.SubmitFault.{SubmitFault}
 use Rattle.device_rules.specs.declared.told.SubmitFault.TheVariants as faults
-use Rattle.device_rules.specs.Caller.{CallerView, AddsOthers, IsCallFault, IsLookFault, is_of, of_hand}
+use Rattle.device_rules.specs.Caller.{CallerView, AddsOthers, IsCallFault, IsLookFault, is_of}
 use Rattle.send_workers.specs.Agreement.{AreExchanged, GoesBy, HasExchanged, Takes, Turn, ended, exchanges_in, exchanges_of_turn, is_send_command, is_send_entry, is_send_of, unended, unmade}
 use Rattle.send_workers.specs.Exchanges.{GainsAll}
 use Rattle.send_workers.specs.Rounds.{HasBegun, HasCarried, HasRun, HasSent, RoundView, Rounds, Starves, Stops, Went, at_begin, at_end, at_lock, at_look, at_release, exchanges_of}
 use Rattle.send_workers.specs.Rounds as round
-use Rattle.send_workers.specs.Sends.{AreSent, Begins, Comes, IsCarried, Sending, Waits}
+use Rattle.send_workers.specs.Sends.{AreSent, Comes, Sending, Waits}
 use Rattle.send_workers.specs.declared.round.RoundEnd.{RoundEnd}
 use Rattle.send_workers.specs.declared.round.RoundEnd.TheVariants as ends
-use Rattle.send_workers.proofs.Steps.{others_wait, waits_then}
+use Rattle.send_workers.proofs.Sending.{gains_then}
+use Rattle.send_workers.proofs.Steps.{no_gain, others_wait}
 
 -- ---- entries that go by
 
@@ -107,23 +108,6 @@ unended_exchanges : (sends : List Sending) (s : Sending)
 unended_exchanges sends s =
     sends_then sends s ∙ sym (exchanges_then (map ended sends) (unended s ∷ [])
     ∙ ap (λ (xs : List Exchange). xs ++ s.exchange ∷ []) (sent_exchanges sends))
-
-pub gains_none : (a : Option (List Exchange)) → GainsAll a a []
-gains_none None = tt
-gains_none (Some xs) = ap Some (append-nil xs)
-
-pub gains_more : (a b c : Option (List Exchange)) (xs ys : List Exchange) → GainsAll a b xs → GainsAll b c ys
-    → GainsAll a c (xs ++ ys)
-gains_more a b None xs ys one other = tt
-gains_more a None (Some now) xs ys one other = absurd (cc other)
-gains_more None (Some middle) (Some now) xs ys one other = absurd (cc one)
-gains_more (Some carried) (Some middle) (Some now) xs ys one other =
-    let first : carried ++ xs ≡ middle = some_same one in
-    let second : middle ++ ys ≡ now = some_same other in
-    ap Some (sym (append_assoc carried xs ys) ∙ ap (λ (zs : List Exchange). zs ++ ys) first ∙ second)
-  where
-    some_same : {p q : List Exchange} → Some p ≡ Some q → p ≡ q
-    some_same e = cc e
 
 -- ---- rounds
 
@@ -222,7 +206,7 @@ module _ (old : RoundView) where
   none_exchanged new others same = others_exchanged old new refl others same (record {
     turns = [];
     exchanged = goes_none old.caller.hand old.caller.trail;
-    gained = gains_none old.carried;
+    gained = no_gain old.carried;
   })
 
   module _ (new : RoundView) where
@@ -262,7 +246,7 @@ exchanged_more old mid new same_start same_hand x y = record {
       (subst (λ (s : State). AreExchanged s old.caller.hand mid.caller.trail y.turns new.caller.trail) same_start
       (subst (λ (h : Hand). AreExchanged mid.caller.start h mid.caller.trail y.turns new.caller.trail) same_hand y.exchanged));
   gained = subst (GainsAll old.carried new.carried) (sym (exchanges_then x.turns y.turns))
-      (gains_more old.carried mid.carried new.carried (exchanges_in x.turns) (exchanges_in y.turns) x.gained y.gained);
+      (gains_then old.carried mid.carried new.carried (exchanges_in x.turns) (exchanges_in y.turns) x.gained y.gained);
 }
 
 pub went_by : (old new : RoundView) → GoesBy old.caller.hand old.caller.trail new.caller.trail
@@ -270,5 +254,5 @@ pub went_by : (old new : RoundView) → GoesBy old.caller.hand old.caller.trail 
 went_by old new goes same = record {
   turns = [];
   exchanged = goes;
-  gained = subst (λ (c : Option (List Exchange)). GainsAll old.carried c []) (sym same) (gains_none old.carried);
+  gained = subst (λ (c : Option (List Exchange)). GainsAll old.carried c []) (sym same) (no_gain old.carried);
 }

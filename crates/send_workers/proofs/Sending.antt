@@ -1,5 +1,5 @@
 -- What a round looks for next, and how a send ends.
-use Rattle.std.proofs.Common.{◌≡◌, ℕ, ◌+◌, ◌-◌, ◌≤◌, Bool, not, List, [], ◌∷◌, ◌++◌, length, map, take, drop, Option, Some, None, option_map, Result, Ok, Err, refl, ap, sym, ◌∙◌, subst, arith, append_assoc, take-append-drop}
+use Rattle.std.proofs.Common.{◌≡◌, ℕ, ◌+◌, ◌-◌, ◌≤◌, Bool, not, List, [], ◌∷◌, ◌++◌, length, take, drop, Option, Some, None, option_map, Result, Ok, Err, refl, ap, sym, ◌∙◌, subst, arith, append_assoc, take-append-drop}
 use Rattle.std.specs.Prelude.{true, false, if◌then◌else◌}
 use Rattle.std.proofs.Math.Seq.{take-append-add}
 use Rattle.std.proofs.lemmas.List.{map-append}
@@ -11,7 +11,6 @@ use Rattle.entry_form.specs.declared.entry.Entry.{Entry}
 use Rattle.entry_form.specs.declared.entry.Entry.TheVariants.{Done}
 use Rattle.entry_form.specs.declared.hand.Hand.{Hand}
 use Rattle.field_io.specs.declared.exchange.Exchange.{Exchange}
-use Rattle.field_text.specs.Steps.{◌>>=◌}
 use Rattle.field_text.proofs.StepLemmas.{then_ok}
 use Rattle.device_state.specs.Flights.{is_flight}
 use Rattle.device_state.specs.declared.state.State.{State}
@@ -25,16 +24,16 @@ use Rattle.device_rules.specs.declared.refused.Refused.TheVariants.{BadValue, No
 use Rattle.device_rules.specs.declared.told.SubmitFault.{SubmitFault}
 use Rattle.device_rules.specs.declared.told.Told.{Told}
 use Rattle.device_rules.specs.Answers.{next_send}
-use Rattle.device_rules.specs.Caller.{CallerView, Accepts, AddsOthers, IsLookFault, LooksOn, Shows, is_of, of_hand}
+use Rattle.device_rules.specs.Caller.{CallerView, Accepts, IsLookFault, LooksOn, Shows, is_of, of_hand}
 use Rattle.device_rules.specs.Due.{next_due}
 use Rattle.device_rules.specs.Limits.{is_within_limits}
-use Rattle.device_rules.specs.SendEnded.{is_taken, send_ended}
-use Rattle.device_rules.specs.Step.{entered, obeyed, step}
+use Rattle.device_rules.specs.SendEnded.{is_taken}
+use Rattle.device_rules.specs.Step.{entered, step}
 use Rattle.device_rules.specs.Tests.{not_full, refused_if}
 use Rattle.device_rules.specs.Trail.{replay}
 use Rattle.send_workers.specs.Exchanges.{Agrees, GainsAll}
-use Rattle.send_workers.specs.Sends.{AreSent, Comes, IsNext, IsSent, Sending, Waits}
-use Rattle.send_workers.specs.Rounds.{GoesOn, HasBegun, HasCarried, HasSent, Names, RoundView, Starves, Stops, exchanges_of, is_one, named_in, view, was_taken}
+use Rattle.send_workers.specs.Sends.{AreSent, IsNext, IsSent, Sending, Waits}
+use Rattle.send_workers.specs.Rounds.{HasBegun, HasCarried, HasSent, Names, RoundView, Starves, Stops, exchanges_of, is_one, named_in, view, was_taken}
 use Rattle.send_workers.specs.Rounds.Starves.{begun}
 use Rattle.send_workers.specs.Rounds.Stops.{at_look}
 use Rattle.submission_wire.specs.Posts.{IsPost}
@@ -193,7 +192,7 @@ abbrev pub sending : NextSend → ℕ → Exchange → Outcome → Sending
 sending named at exchange outcome = record { named = named; at = at; exchange = exchange; outcome = outcome }
 
 -- what two calls added
-gains_then : (before between after : Option (List Exchange)) (xs ys : List Exchange) → GainsAll before between xs
+pub gains_then : (before between after : Option (List Exchange)) (xs ys : List Exchange) → GainsAll before between xs
     → GainsAll between after ys → GainsAll before after (xs ++ ys)
 gains_then before between None xs ys one other = tt
 gains_then before None (Some now) xs ys one other = absurd cc

@@ -1,5 +1,5 @@
 -- What a caller's calls make of a round, step by step.
-use Rattle.std.proofs.Common.{◌≡◌, ℕ, suc, ◌+◌, ◌≤◌, List, [], ◌∷◌, ◌++◌, length, Option, Some, None, Result, Ok, Err, refl, ap, sym, ◌∙◌, subst, arith, append_assoc, append-nil}
+use Rattle.std.proofs.Common.{◌≡◌, ℕ, suc, List, [], ◌∷◌, ◌++◌, Option, Some, None, refl, ap, sym, ◌∙◌, subst, arith, append_assoc, append-nil}
 use Rattle.std.specs.Prelude.{true, false}
 use Rattle.std.specs.List.{AllByRecursion}
 use Rattle.std.proofs.lemmas.List.Elements.{filter-append}
@@ -11,7 +11,7 @@ use Rattle.entry_form.specs.declared.entry.Entry.{Entry}
 use Rattle.entry_form.specs.declared.entry.Entry.TheVariants.{Done}
 use Rattle.entry_form.specs.declared.hand.Hand.{Hand}
 use Rattle.field_io.specs.declared.exchange.Exchange.{Exchange}
-use Rattle.http_exchange.specs.Exchange.{DialerView, Carries, Exchanges}
+use Rattle.http_exchange.specs.Exchange.{DialerView, Exchanges}
 use Rattle.http_exchange.specs.Exchange.Carries.{dial_failed, send_failed, take_failed, enough, ended}
 use Rattle.http_exchange.specs.declared.got.Got.{Got}
 use Rattle.http_exchange.specs.declared.got.Got.TheVariants as got
@@ -58,7 +58,7 @@ all_then : (xs ys : List Entry) → AllByRecursion IsCommand xs → AllByRecursi
 all_then [] ys one other = other
 all_then (x ∷ xs) ys one other = (one.0, all_then xs ys one.1 other)
 
-grows_then : (a b c : CallerView) (xs ys : List Entry) → Grows a b xs → Grows b c ys → Grows a c (xs ++ ys)
+pub grows_then : (a b c : CallerView) (xs ys : List Entry) → Grows a b xs → Grows b c ys → Grows a c (xs ++ ys)
 grows_then a b c xs ys x y = record {
   hand = y.hand ∙ x.hand;
   start = y.start ∙ x.start;
@@ -129,7 +129,7 @@ behind_it old a b command told same x = record {
 
 -- ---- the round
 
-no_gain : (carried : Option (List Exchange)) → GainsAll carried carried []
+pub no_gain : (carried : Option (List Exchange)) → GainsAll carried carried []
 no_gain None = tt
 no_gain (Some xs) = ap Some (append-nil xs)
 

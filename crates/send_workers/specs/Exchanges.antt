@@ -1,5 +1,5 @@
 -- Which exchange agrees with what is recorded of it.
-use Rattle.std.specs.Prelude.{◌≡◌, ◌≢◌, ℕ, true, false, List, [], ◌++◌, Option, Result, Ok, Err}
+use Rattle.std.specs.Prelude.{◌≡◌, ◌≢◌, ℕ, true, false, List, [], ◌++◌, Option}
 use Rattle.entry_form.specs.declared.command.Outcome.{Outcome}
 use Rattle.entry_form.specs.declared.command.Outcome.TheVariants.{Reply, Fault}
 use Rattle.field_io.specs.Exchanges.{Makes}

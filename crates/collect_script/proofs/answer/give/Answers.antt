@@ -1,6 +1,6 @@
-use Rattle.std.proofs.Common.{refl, sym, ◌∙◌, ap, subst}
-use Rattle.collect_script.specs.Answering.{Says, SaysNothing, FaultStop, FaultText, skips, accepts, shows, quits, not_built, failed}
-use Rattle.collect_script.proofs.Saying.{if_err, if_ok, look_stops, look_says, shown_starved, call_stops, call_says, accepted_starved, adds_none}
+use Rattle.std.proofs.Common.{◌∙◌, ap}
+use Rattle.collect_script.specs.Answering.{accepts}
+use Rattle.collect_script.proofs.Saying.{if_err, if_ok, call_stops, call_says, accepted_starved}
 use Rattle.collect_text.specs.Answers.{printed_answer}
 use Rattle.collect_script.proofs.answer.give.Goals as goal
 

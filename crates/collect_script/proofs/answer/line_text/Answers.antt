@@ -1,6 +1,6 @@
-use Rattle.std.proofs.Common.{Vec, Global, ℕ, refl, sym, ◌∙◌, ap, subst}
+use Rattle.std.proofs.Common.{Vec, Global, ℕ, refl, sym, ◌∙◌, ap}
 use Rattle.collect_text.specs.declared.line.Line.TheVariants.{Bad, NotBuilt, Quit, Look, Give}
-use Rattle.collect_script.specs.Answering.{Says, SaysNothing, skips}
+use Rattle.collect_script.specs.Answering.{skips}
 use Rattle.collect_script.specs.Exchanged.{is_plain}
 use Rattle.collect_script.proofs.Exchanging.{exchanged_alone}
 use Rattle.collect_script.proofs.Saying.{starved_at_once}

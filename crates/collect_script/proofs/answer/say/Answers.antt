@@ -1,5 +1,3 @@
-use Rattle.std.proofs.Common.{refl, sym, ◌∙◌, ap, subst}
-use Rattle.collect_script.specs.Answering.{Says, SaysNothing, skips}
 use Rattle.collect_script.proofs.Saying.{look_stops, shown_starved, word_says}
 use Rattle.collect_script.proofs.answer.say.Goals as goal
 

@@ -1,7 +1,7 @@
 use Rattle.std.proofs.Common.{refl, subst}
 use Rattle.line_io.specs.Output.{IsCut}
 use Rattle.line_io.proofs.Gains.{gained_nothing}
-use Rattle.collect_script.specs.Answering.{LineStops, silent, cut}
+use Rattle.collect_script.specs.Answering.{silent, cut}
 use Rattle.collect_script.proofs.lines.answer_line.Goals as goal
 
 pub returns-in-Err-clause-stopped : goal.returns-in-Err-clause-stopped

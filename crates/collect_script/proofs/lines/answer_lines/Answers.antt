@@ -1,4 +1,4 @@
-use Rattle.std.proofs.Common.{refl, sym, ◌∙◌, ap, subst}
+use Rattle.std.proofs.Common.{refl, sym, ◌∙◌, ap}
 use Rattle.collect_text.specs.Line.{meaning}
 use Rattle.collect_script.specs.Script.{is_quit}
 use Rattle.collect_script.proofs.Ending.{ends_whole, ends_unread, ends_starved, ends_unanswered, ends_quit, so_far_more}

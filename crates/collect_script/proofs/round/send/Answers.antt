@@ -1,4 +1,3 @@
-use Rattle.std.proofs.Common.{refl, sym, ◌∙◌, ap, subst}
 use Rattle.collect_script.proofs.Saying.{if_err, if_ok}
 use Rattle.collect_script.proofs.RoundEnds.{round_says, round_stops}
 use Rattle.send_workers.proofs.Agreeing.{rounds_exchanged}

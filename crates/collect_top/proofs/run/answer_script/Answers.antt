@@ -1,4 +1,3 @@
-use Rattle.std.proofs.Common.{refl, sym}
 use Rattle.collect_top.proofs.Over.{answers_over}
 use Rattle.collect_top.proofs.Transmitting.{transmitted_over}
 use Rattle.collect_top.proofs.run.answer_script.Goals as goal

@@ -1,4 +1,4 @@
-use Rattle.std.proofs.Common.{None, refl, sym, subst}
+use Rattle.std.proofs.Common.{None, refl, subst}
 use Rattle.device_core.specs.Crash.{LeavesUnopened}
 use Rattle.device_core.specs.Faults.{IsOpenFault}
 use Rattle.device_core.specs.View.{IsOpened}

@@ -1,4 +1,4 @@
-use Rattle.std.proofs.Common.{refl, subst, ap, ◌∙◌}
+use Rattle.std.proofs.Common.{refl, subst, ◌∙◌}
 use Rattle.line_io.specs.Output.{Gained, IsCut}
 use Rattle.line_io.proofs.Gains.{gained_nothing}
 use Rattle.collect_top.specs.Shown.{shown, cut, starved}

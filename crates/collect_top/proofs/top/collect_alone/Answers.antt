@@ -1,4 +1,4 @@
-use Rattle.std.proofs.Common.{refl, sym}
+use Rattle.std.proofs.Common.{sym}
 use Rattle.device_laws.proofs.FinalHistories.{history_keeps_finals}
 use Rattle.device_laws.proofs.Histories.{history_keeps}
 use Rattle.device_laws.proofs.IdHistories.{history_keeps_ids_apart}

@@ -1,5 +1,4 @@
-use Rattle.std.proofs.Common.{ℕ, List, sym, subst}
-use Rattle.send_workers.specs.Rounds.{CarriesOut}
+use Rattle.std.proofs.Common.{sym}
 use Rattle.send_workers.proofs.Steps.{carried_out}
 use Rattle.send_workers.proofs.one_send.carry_out.Goals as goal
 

@@ -1,4 +1,3 @@
-use Rattle.std.proofs.Common.{sym}
 use Rattle.send_workers.proofs.Sending.{ended}
 use Rattle.send_workers.proofs.Steps.{stops_at_end}
 use Rattle.send_workers.proofs.one_send.end_send.Goals as goal

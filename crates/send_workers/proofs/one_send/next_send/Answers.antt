@@ -1,4 +1,3 @@
-use Rattle.std.proofs.Common.{sym, subst}
 use Rattle.send_workers.proofs.Sending.{looked, stops_at_look}
 use Rattle.send_workers.proofs.one_send.next_send.Goals as goal
 

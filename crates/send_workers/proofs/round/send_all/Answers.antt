@@ -1,4 +1,4 @@
-use Rattle.std.proofs.Common.{◌≡◌, Ok, Err, arith, refl, rules, sym, ◌∙◌}
+use Rattle.std.proofs.Common.{arith, refl, rules, ◌∙◌}
 use Rattle.send_workers.proofs.Rounding.{all_at_none, all_when_tired, none_so_far, turns_refused, turns_sent}
 use Rattle.send_workers.proofs.round.send_all.Goals as goal
 use Rattle.send_workers.proofs.round.send_all.Goals.{in-Ok-NotDue, in-Ok-Sent}

@@ -1,4 +1,3 @@
-use Rattle.send_workers.specs.Rounds.{view}
 use Rattle.send_workers.proofs.Rounding.{ends_so}
 use Rattle.send_workers.proofs.round.send_round.Goals as goal
 
